@@ -8,7 +8,7 @@ use Rattle.std.proofs.lemmas.List.{map-append}
 use Rattle.vac_lines.specs.Lines.{lines_of}
 use Rattle.vac_lines.specs.TaskText.{task_text}
 use Rattle.judge_object.proofs.Order.{fails}
-use Rattle.judge_object.specs.Call.{EachCall, is_answered}
+use Rattle.judge_object.specs.Call.{EachCall, is_completed}
 use Rattle.judge_object.specs.Orders.{of_client, IsOrderOf}
 use Rattle.judge_calls.specs.declared.fault.CallFault.{CallFault}
 use Rattle.judge_calls.specs.declared.verdict.Verdict.{Verdict}
@@ -559,9 +559,9 @@ left_pending first n tasks bytes text calls order r line h =
           owner = c.owner;
           place = omega (arith, place, some);
           left_out = few;
-          pending = behind (λ x. is_answered x ≡ false) (of_client k order) (of_client k r.orders.left)
+          pending = behind (λ x. is_completed x ≡ false) (of_client k order) (of_client k r.orders.left)
               (of_client k c.front) c.call (of_client k c.after) parts within
-              (each_client (λ x. is_answered x ≡ false) k r.orders.left r.orders.never);
+              (each_client (λ x. is_completed x ≡ false) k r.orders.left r.orders.never);
         }
 
 pub left_out_is_pending : MissingIsFirst → LeftOutIsPending

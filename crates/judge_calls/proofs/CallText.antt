@@ -2,7 +2,7 @@
 use Rattle.std.proofs.Common.{◌≡◌, ◌≤◌, ◌<◌, ◌+◌, ◌*◌, ◌-◌, ◌/◌, ◌%◌, ◌^◌, ◌&&◌, ◌||◌, Bool, true, false, cond, not}
 use Rattle.std.proofs.Common.{inl, inr, Option, Some, None, Ok, ℕ, List, [], ◌∷◌, ◌++◌, length, take, decimal, codes}
 use Rattle.std.proofs.Common.{refl, sym, ap, subst, ◌∙◌, arith, append_assoc, append-nil, length-append, length-take}
-use Rattle.std.proofs.Common.{slice_index, ◌==◌, All}
+use Rattle.std.proofs.Common.{slice_index, ◌==◌, All, nat_lt}
 use Rattle.std.specs.List.{list_all, list_any, flat_map, zip}
 use Rattle.std.specs.Char.{is_ascii_digit}
 use Rattle.std.proofs.lemmas.Bool.{le-leb, le-ltb}
@@ -41,12 +41,13 @@ use Rattle.vac_lines.proofs.TaskReading.{both, small_id, small_amount, small_uni
 use Rattle.vac_lines.proofs.TaskReading.{words_plain, task_some}
 use Rattle.judge_calls.specs.Call.{Call, CallTexts, is_arrow, parts_of, call_parts, parts_call, at_client, at_time}
 use Rattle.judge_calls.specs.Call.{at_end}
-use Rattle.judge_calls.specs.Call.{reply_at, is_no_end, is_no_reply, line_call}
+use Rattle.judge_calls.specs.Call.{reply_at, is_no_end, is_no_reply, lacks_reply, line_call}
 use Rattle.vac_lines.specs.declared.client.TheConstants.{MOST_CLIENT}
 use Rattle.judge_object.specs.declared.span.TheConstants.{NEVER}
 use Rattle.vac_lines.specs.declared.line.TheConstants.{LINE_BYTES}
 use Rattle.judge_calls.specs.Parts.{IsCutAtArrow}
 use Rattle.judge_calls.specs.CallText.{call_text, end_text, answer_text, IsPick, IsReply, IsUnanswered, IsWritten}
+use Rattle.judge_calls.specs.CallText.{IsAnsweredCall, IsUndetermined}
 use Rattle.judge_calls.specs.CallText.{CallTextsAreRead}
 use Rattle.judge_calls.proofs.Arrows.{words_between, cut_gives, all_parts}
 
@@ -337,19 +338,23 @@ fits_spaced : (a b : ℕ) (xs ys : List ℕ) → Fits a xs → Fits b ys → Fit
 fits_spaced a b xs ys p q = fits_both (a + 1) b (xs ++ codes " ") ys
     (fits_both a 1 xs (codes " ") p (record { clean = refl; size = omega arith })) q
 
+-- the text of an END, and what reading it gives
+record IsEnd (end : ℕ) (text : List ℕ) : Type 0 where
+  pub fits : Fits 20 text
+  pub plain : IsPlain text
+  pub other : IsOther text
+  pub read : at_end text ≡ Ok end
+
 -- END and REPLY of a call as they are written, and what reading them gives
 record IsGiven (c : Call) : Type 0 where
   pub client : c.client ≤ MOST_CLIENT
   pub begin : c.begin < 2 ^ 64
   pub task : is_task c.op ≡ true
   pub line : length (task_text c.op) ≤ LINE_BYTES
-  pub end_fits : Fits 20 (end_text c.reply c.end)
-  pub end_plain : IsPlain (end_text c.reply c.end)
-  pub end_other : IsOther (end_text c.reply c.end)
-  pub end_read : at_end (end_text c.reply c.end) ≡ Ok c.end
+  pub end : IsEnd c.end (end_text c.end)
   pub reply_fits : Fits 800 (answer_text c.reply)
   pub reply_read : reply_at (answer_text c.reply) ≡ c.reply
-  pub same : is_no_end (end_text c.reply c.end) ≡ is_no_reply (answer_text c.reply)
+  pub whole : lacks_reply (end_text c.end) (answer_text c.reply) ≡ false
 
 digits_no_end : (digits : List ℕ) → list_all is_ascii_digit digits ≡ true → is_no_end digits ≡ false
 digits_no_end [] e = refl
@@ -371,65 +376,115 @@ reply_other (reply.No w) h = refl
 reply_other (reply.Trip t) h = refl
 reply_other (reply.Update u) h = refl
 
--- the facts of a call that was answered so
-given_some : (c : Call) (text : List ℕ) → c.reply ≡ Some text → c.client ≤ MOST_CLIENT → c.begin < 2 ^ 64 →
-    c.end < 2 ^ 64 → is_task c.op ≡ true
-    → length (task_text c.op) ≤ LINE_BYTES → Fits 800 text → is_no_reply text ≡ false → IsGiven c
-given_some c text e client begin end task line f other =
-    let digits = digits_no_end (decimal c.end) (all_digits c.end end) in
-    record {
-      client = client;
-      begin = begin;
-      task = task;
-      line = line;
-      end_fits = subst (λ o. Fits 20 (end_text o c.end)) (sym e) (number_fits c.end end);
-      end_plain = subst (λ o. IsPlain (end_text o c.end)) (sym e) (number_in_word c.end end);
-      end_other = subst (λ o. IsOther (end_text o c.end)) (sym e) (number_other c.end end);
-      end_read = subst (λ o. at_end (end_text o c.end) ≡ Ok c.end) (sym e) (end_is c.end end digits);
-      reply_fits = subst (λ o. Fits 800 (answer_text o)) (sym e) f;
-      reply_read = subst (λ o. reply_at (answer_text o) ≡ o) (sym e) (ap (λ b. cond b None (Some text)) other);
-      same = subst (λ o. is_no_end (end_text o c.end) ≡ is_no_reply (answer_text o)) (sym e) (digits ∙ sym other);
-    }
-  where
-    end_is : (n : ℕ) → n < 2 ^ 64 → is_no_end (decimal n) ≡ false → at_end (decimal n) ≡ Ok n
-    end_is n small d = ap (λ b. cond b (Ok NEVER) (at_time (decimal n))) d ∙ time_read n small
+-- the END of a completed call
+pub end_is : (n : ℕ) → n < 2 ^ 64 → end_text n ≡ decimal n
+end_is n small =
+    let ends : nat_lt n NEVER ≡ true = grind (arith, nat_tests, small) in
+    ap (λ b. cond b (decimal n) (codes "-")) ends
 
--- the facts of a call that was never answered
+end_some : (n : ℕ) → n < 2 ^ 64 → IsEnd n (end_text n)
+end_some n small =
+    let digits = digits_no_end (decimal n) (all_digits n small) in
+    subst (IsEnd n) (sym (end_is n small)) (record {
+      fits = number_fits n small;
+      plain = number_in_word n small;
+      other = number_other n small;
+      read = ap (λ b. cond b (Ok NEVER) (at_time (decimal n))) digits ∙ time_read n small;
+    })
+
+-- the END of a pending call
+pub no_end_is : (n : ℕ) → n ≡ NEVER → end_text n ≡ codes "-"
+no_end_is n never =
+    let ends : nat_lt n NEVER ≡ false = grind (arith, nat_tests, never) in
+    ap (λ b. cond b (decimal n) (codes "-")) ends
+
+end_none : (n : ℕ) → n ≡ NEVER → IsEnd n (end_text n)
+end_none n never = subst (IsEnd n) (sym (no_end_is n never)) (record {
+  fits = record { clean = refl; size = omega arith };
+  plain = refl;
+  other = refl;
+  read = ap Ok (sym never);
+})
+
+-- no reply of a pending call is lacking
+pending_whole : (n : ℕ) (reply : List ℕ) → n ≡ NEVER → lacks_reply (end_text n) reply ≡ false
+pending_whole n reply never = subst (λ t. lacks_reply t reply ≡ false) (sym (no_end_is n never)) refl
+
+-- and none that is another text than that of an unknown one
+reply_whole : (end reply : List ℕ) → is_no_reply reply ≡ false → lacks_reply end reply ≡ false
+reply_whole end reply e = go (is_no_end end)
+  where
+    go : (b : Bool) → (not b && is_no_reply reply) ≡ false
+    go true = refl
+    go false = e
+
+reply_kept : (text : List ℕ) → is_no_reply text ≡ false → reply_at text ≡ Some text
+reply_kept text other = ap (λ b. cond b None (Some text)) other
+
+-- the facts of a completed call with this reply
+given_some : (c : Call) (r : Reply) → IsAnsweredCall c r → IsGiven c
+given_some c r h =
+    let e = h.reply in
+    let other = reply_other r h.numbers in
+    record {
+      client = h.client;
+      begin = h.begin;
+      task = h.task;
+      line = h.line;
+      end = end_some c.end h.end;
+      reply_fits = subst (λ o. Fits 800 (answer_text o)) (sym e) (reply_fits r h.numbers);
+      reply_read = subst (λ o. reply_at (answer_text o) ≡ o) (sym e) (reply_kept (reply_text r) other);
+      whole = subst (λ o. lacks_reply (end_text c.end) (answer_text o) ≡ false) (sym e)
+          (reply_whole (end_text c.end) (reply_text r) other);
+    }
+
+-- the facts of an undetermined call with this reply
+given_perhaps : (c : Call) (r : Reply) → IsUndetermined c r → IsGiven c
+given_perhaps c r h =
+    let e = h.reply in
+    record {
+      client = h.client;
+      begin = h.begin;
+      task = h.task;
+      line = h.line;
+      end = end_none c.end h.end;
+      reply_fits = subst (λ o. Fits 800 (answer_text o)) (sym e) (reply_fits r h.numbers);
+      reply_read = subst (λ o. reply_at (answer_text o) ≡ o) (sym e)
+          (reply_kept (reply_text r) (reply_other r h.numbers));
+      whole = pending_whole c.end (answer_text c.reply) h.end;
+    }
+
+-- the facts of a pending call without a reply
 given_none : (c : Call) → IsUnanswered c → IsGiven c
 given_none c h = record {
   client = h.client;
   begin = h.begin;
   task = h.task;
   line = h.line;
-  end_fits = subst (λ o. Fits 20 (end_text o c.end)) (sym h.reply) (record { clean = refl; size = omega arith });
-  end_plain = subst (λ o. IsPlain (end_text o c.end)) (sym h.reply) refl;
-  end_other = subst (λ o. IsOther (end_text o c.end)) (sym h.reply) refl;
-  end_read = subst (λ o. at_end (end_text o c.end) ≡ Ok c.end) (sym h.reply) (ap Ok (sym h.end));
+  end = end_none c.end h.end;
   reply_fits = subst (λ o. Fits 800 (answer_text o)) (sym h.reply) (record { clean = refl; size = omega arith });
   reply_read = subst (λ o. reply_at (answer_text o) ≡ o) (sym h.reply) refl;
-  same = subst (λ o. is_no_end (end_text o c.end) ≡ is_no_reply (answer_text o)) (sym h.reply) refl;
+  whole = pending_whole c.end (answer_text c.reply) h.end;
 }
 
 given_of : (c : Call) → IsWritten c → IsGiven c
-given_of c (inl h) =
-    let a = h.1 in
-    given_some c (reply_text h.0) a.reply a.client a.begin a.end a.task a.line (reply_fits h.0 a.numbers)
-    (reply_other h.0 a.numbers)
-given_of c (inr h) = given_none c h
+given_of c (inl h) = given_some c h.0 h.1
+given_of c (inr (inl h)) = given_perhaps c h.0 h.1
+given_of c (inr (inr h)) = given_none c h
 
 -- what stands before the arrow
 abbrev front : Call → List ℕ
-front c = decimal c.client ++ codes " " ++ decimal c.begin ++ codes " " ++ end_text c.reply c.end ++ codes " " ++
+front c = decimal c.client ++ codes " " ++ decimal c.begin ++ codes " " ++ end_text c.end ++ codes " " ++
     task_text c.op
 
 call_fits : (c : Call) → IsGiven c → Fits 4096 (call_text c)
 call_fits c h =
-    let last = end_text c.reply c.end in
+    let last = end_text c.end in
     let client : Fits 20 (decimal c.client) = number_fits c.client (let small = h.client in omega (arith, small)) in
     let begin : Fits 41 (decimal c.client ++ codes " " ++ decimal c.begin) =
     fits_spaced 20 20 (decimal c.client) (decimal c.begin) client (number_fits c.begin h.begin) in
     let end : Fits 62 (decimal c.client ++ codes " " ++ decimal c.begin ++ codes " " ++ last) =
-    fits_spaced 41 20 (decimal c.client ++ codes " " ++ decimal c.begin) last begin h.end_fits in
+    fits_spaced 41 20 (decimal c.client ++ codes " " ++ decimal c.begin) last begin h.end.fits in
     let line : Fits 1087 (front c) =
     fits_spaced 62 1024 (decimal c.client ++ codes " " ++ decimal c.begin ++ codes " " ++ last) (task_text c.op) end
     (task_fits c.op h.task h.line) in
@@ -439,7 +494,7 @@ call_fits c h =
 
 -- the words before the arrow
 abbrev head_words : Call → List (List ℕ)
-head_words c = decimal c.client ∷ decimal c.begin ∷ end_text c.reply c.end ∷ task_words c.op
+head_words c = decimal c.client ∷ decimal c.begin ∷ end_text c.end ∷ task_words c.op
 
 spaced_text : (ws : List (List ℕ)) → 0 < length ws → spaced ws ≡ 32 ∷ words_text ws
 spaced_text [] h = absurd (omega arith)
@@ -450,7 +505,7 @@ from_left a b c d = simp append_assoc
 
 front_is : (c : Call) → front c ≡ words_text (head_words c)
 front_is c =
-    let last = end_text c.reply c.end in
+    let last = end_text c.end in
     from_left (decimal c.client) (decimal c.begin) last (task_text c.op)
     ∙ ap (λ s. decimal c.client ++ 32 ∷ (decimal c.begin ++ 32 ∷ (last ++ s)))
     (sym (spaced_text (task_words c.op) (task_some c.op)))
@@ -460,7 +515,7 @@ front_words c h =
     ap words_of (front_is c)
     ∙ words_cut (head_words c) (omega arith) (
       number_in_word c.client (let small = h.client in omega (arith, small)),
-      (number_in_word c.begin h.begin, (h.end_plain, words_plain c.op h.task)),
+      (number_in_word c.begin h.begin, (h.end.plain, words_plain c.op h.task)),
     )
 
 call_cut : (c : Call) → IsGiven c → IsCutAtArrow (call_text c) (front c) (answer_text c.reply)
@@ -471,7 +526,7 @@ call_cut c h = record {
       ap (list_any is_arrow) (front_words c h)
       ∙ no_arrow (head_words c) (
         number_other c.client (let small = h.client in omega (arith, small)),
-        (number_other c.begin h.begin, (h.end_other, task_other c.op h.task)),
+        (number_other c.begin h.begin, (h.end.other, task_other c.op h.task)),
       );
 }
 
@@ -480,14 +535,14 @@ abbrev written : Call → CallTexts
 written c = record {
   client = decimal c.client;
   begin = decimal c.begin;
-  end = end_text c.reply c.end;
+  end = end_text c.end;
   line = task_text c.op;
   reply = answer_text c.reply;
 }
 
 call_cut_parts : (c : Call) → IsGiven c → call_parts (call_text c) ≡ Some (written c)
 call_cut_parts c h =
-    let last = end_text c.reply c.end in
+    let last = end_text c.end in
     let task : words_of (task_text c.op) ≡ task_words c.op =
     words_cut (task_words c.op) (task_some c.op) (words_plain c.op h.task) in
     cut_gives (call_text c) (front c) (answer_text c.reply) (call_cut c h)
@@ -495,20 +550,13 @@ call_cut_parts c h =
     ap (λ t. decimal c.client ∷ decimal c.begin ∷ last ∷ t) (sym task))
     ∙ all_parts (decimal c.client) (decimal c.begin) last (task_text c.op) (answer_text c.reply)
 
--- tests that agree make no half
-whole : (a b : Bool) → a ≡ b → cond a (not b) b ≡ false
-whole true true e = refl
-whole false false e = refl
-whole true false e = cc
-whole false true e = cc
-
 parts_read : TaskTextsAreRead → (c : Call) → IsGiven c → parts_call (written c) ≡ Ok c
 parts_read read c h =
     rw (
-      whole (is_no_end (end_text c.reply c.end)) (is_no_reply (answer_text c.reply)) h.same,
+      h.whole,
       client_read c.client h.client,
       time_read c.begin h.begin,
-      h.end_read,
+      h.end.read,
       h.reply_read,
       read c.op h.task h.line,
     ) refl

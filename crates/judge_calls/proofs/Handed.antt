@@ -1,6 +1,6 @@
 -- Reading work, and holding calls against it, step by step.
 use Rattle.std.proofs.Common.{◌≡◌, ◌≢◌, ◌⊎◌, ℕ, ◌+◌, ◌<◌, ◌≤◌, ◌==◌, ◌&&◌, ◌||◌, suc, Bool, true, false, not, cond}
-use Rattle.std.proofs.Common.{List, [], ◌∷◌, ◌++◌, length, map, Option, Some, None, is_none, unwrap_or, Result, Ok, Err}
+use Rattle.std.proofs.Common.{List, [], ◌∷◌, ◌++◌, length, map, Option, Some, None, unwrap_or, Result, Ok, Err}
 use Rattle.std.proofs.Common.{refl, sym, ap, subst, ◌∙◌, inl, inr, arith, append-nil, append_assoc, length-append, eqb}
 use Rattle.std.proofs.Common.{ne_eqb, nat_le}
 use Rattle.std.specs.Prelude.{codes}
@@ -18,6 +18,7 @@ use Rattle.judge_calls.specs.declared.fault.CallFault.TheVariants.{BadCall}
 use Rattle.judge_calls.specs.declared.work.Workload.{Workload}
 use Rattle.judge_calls.specs.declared.holding.CallCount.{CallCount}
 use Rattle.judge_calls.specs.declared.holding.CallCounts.{CallCounts}
+use Rattle.judge_object.specs.Call.{is_completed}
 use Rattle.judge_calls.specs.Call.{Call, line_call, joined_words}
 use Rattle.judge_calls.specs.Work.{Asked, words_asked, text_asked, line_asked, onto_work, work_of, tasks_of, made_by}
 use Rattle.judge_calls.specs.Work.{has_stopped, is_next, first_foreign, calls_in, is_missing, first_missing}
@@ -193,7 +194,8 @@ read_all kept count text rest r none = (
 
 pub count_more : (old new : CallCounts) (c : Call) (p p' : CallCount) → new.clients ≡ insert old.clients c.client p' →
     p'.made ≡ p.made + 1
-    → p'.stopped ≡ (is_none c.reply || p.stopped) → new.count ≡ old.count + 1 → (calls : List Call) → Counts old calls →
+    → p'.stopped ≡ (not (is_completed c) || p.stopped) → new.count ≡ old.count + 1 → (calls : List Call) →
+    Counts old calls →
     IsCallCount p c.client calls → Counts new (c ∷ calls)
 count_more old new c p p' i made stopped n calls h so_far = record {
   clients = λ k. elim (test c.client k) [
@@ -205,8 +207,9 @@ count_more old new c p p' i made stopped n calls h so_far = record {
         (record {
           made = made ∙ ap (λ m. m + 1) (so_far.made ∙ ap (λ q. made_by q calls) same.1) ∙
               ap (λ b. cond b (made_by k calls + 1) (made_by k calls)) (sym same.0);
-          stopped = stopped ∙ ap (λ b. is_none c.reply || b) (so_far.stopped ∙ ap (λ q. has_stopped q calls) same.1)
-              ∙ ap (λ b. (b && is_none c.reply) || has_stopped k calls) (sym same.0);
+          stopped = stopped ∙ ap (λ b. not (is_completed c) || b)
+              (so_far.stopped ∙ ap (λ q. has_stopped q calls) same.1)
+              ∙ ap (λ b. (b && not (is_completed c)) || has_stopped k calls) (sym same.0);
         })
     | inr other ↦
         subst (λ o. IsKept o k (c ∷ calls)) (sym (ap (λ (m : FinMap nat_cmp CallCount). get m k) i ∙
@@ -223,7 +226,7 @@ count_more old new c p p' i made stopped n calls h so_far = record {
     made_on k f = ap (λ b. cond b (made_by k calls + 1) (made_by k calls)) (sym f)
 
     stopped_on : (k : ℕ) → (c.client == k) ≡ false → has_stopped k calls ≡ has_stopped k (c ∷ calls)
-    stopped_on k f = ap (λ b. (b && is_none c.reply) || has_stopped k calls) (sym f)
+    stopped_on k f = ap (λ b. (b && not (is_completed c)) || has_stopped k calls) (sym f)
 
     kept_on : (o : Option CallCount) (k : ℕ) → (c.client == k) ≡ false → IsKept o k calls → IsKept o k (c ∷ calls)
     kept_on None k f h = (h.0 ∙ made_on k f, h.1 ∙ stopped_on k f)

@@ -10,7 +10,7 @@ use Rattle.vac_lines.specs.Script.{as_line}
 use Rattle.vac_lines.specs.Writing.{AppendsPrefix}
 use Rattle.vac_lines.specs.declared.stream_fault.StreamFault.{StreamFault}
 use Rattle.vac_lines.specs.declared.stream_fault.StreamFault.TheVariants as fault
-use Rattle.judge_object.specs.Call.{is_answered}
+use Rattle.judge_object.specs.Call.{is_completed}
 use Rattle.judge_object.specs.Orders.{IsOrderOf}
 use Rattle.judge_calls.specs.declared.fault.CallFault.{CallFault}
 use Rattle.judge_calls.specs.declared.held.WorkloadVerdict.{WorkloadVerdict}
@@ -180,7 +180,7 @@ pub record IsLeftOutOfOrder (n : ℕ) (tasks text : List ℕ) (calls order : Lis
   pub owner : call.client ≡ client
   pub place : length (asked_by client before) + 1 ≡ number
   pub left_out : length (asked_by client order) < number
-  pub pending : is_answered call ≡ false
+  pub pending : is_completed call ≡ false
 
 -- if the verdict names a line as left out, its call is pending, and its task is the first that the
 -- order does not submit

@@ -1,8 +1,10 @@
--- The call of a line of a history: CLIENT BEGIN END LINE -> REPLY, or CLIENT BEGIN - LINE -> ? for
--- a pending call.
+-- The call of a line of a history: CLIENT BEGIN END LINE -> REPLY for a completed call,
+-- CLIENT BEGIN - LINE -> ? for a pending call whose reply is not known, or
+-- CLIENT BEGIN - LINE -> REPLY for an undetermined call. An undetermined call is a pending call
+-- that took effect with exactly this reply, or never took effect.
 use Rattle.std.specs.Prelude.{ℕ, Option, Some, None, Result, Ok, Err, List, ◌∷◌, length, nat_lt, codes, if◌then◌else◌}
 use Rattle.std.specs.Option.{ok_or}
-use Rattle.std.specs.Prelude.{Bool, not}
+use Rattle.std.specs.Prelude.{Bool, ◌&&◌, not}
 use Rattle.std.specs.List.{list_any, join_with_byte, before_first, after_first}
 use Rattle.std.specs.Str.{bytes_eq}
 use Rattle.vac_model.specs.declared.tasks.Task.{Task}
@@ -76,19 +78,19 @@ at_time word = ok_or (memory_word_of word) (Line BadNumber)
 abbrev pub is_no_end : List ℕ → Bool
 is_no_end word = bytes_eq word (codes "-")
 
--- true if the text stands in the place of REPLY and marks a pending call
+-- true if the text stands in the place of REPLY and marks a reply that is not known
 abbrev pub is_no_reply : List ℕ → Bool
 is_no_reply text = bytes_eq text (codes "?")
 
--- true if exactly one of END and REPLY marks a pending call
-abbrev pub is_half : List ℕ → List ℕ → Bool
-is_half end reply = if is_no_end end then not (is_no_reply reply) else is_no_reply reply
+-- true if END is that of a completed call, and REPLY marks a reply that is not known
+abbrev pub lacks_reply : List ℕ → List ℕ → Bool
+lacks_reply end reply = not (is_no_end end) && is_no_reply reply
 
 -- END of a call; the END of a pending call is NEVER, which is later than all times
 abbrev pub at_end : List ℕ → Result ℕ CallFault
 at_end word = if is_no_end word then Ok NEVER else at_time word
 
--- the text of the reply, or none for a pending call
+-- the text of the reply, or none if it is not known
 abbrev pub reply_at : List ℕ → Option (List ℕ)
 reply_at text = if is_no_reply text then None else Some text
 
@@ -97,8 +99,7 @@ abbrev pub as_call_fault : {A : Type 0} → Result A LineFault → Result A Call
 as_call_fault (Ok x) = Ok x
 as_call_fault (Err fault) = Err (Line fault)
 
--- the call of the parts of a line, or the first fault, if END and REPLY agree on whether the call
--- is pending
+-- the call of the parts of a line, or the first fault, if a completed call has a reply
 abbrev pub whole_call : CallTexts → Result Call CallFault
 whole_call parts = do
   client ← at_client parts.client
@@ -116,7 +117,7 @@ whole_call parts = do
 -- the call of the parts of a line, or the first fault
 abbrev pub parts_call : CallTexts → Result Call CallFault
 parts_call parts =
-    if is_half parts.end parts.reply then Err BadCall else whole_call parts
+    if lacks_reply parts.end parts.reply then Err BadCall else whole_call parts
 
 -- the call of a line, or the first fault of the line
 abbrev pub line_call : List ℕ → Result Call CallFault

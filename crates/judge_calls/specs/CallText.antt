@@ -1,5 +1,6 @@
 -- The line that a writer of histories writes for a call, in its plain form.
 use Rattle.std.specs.Prelude.{◌≡◌, ◌↔◌, ◌≤◌, ◌<◌, ◌^◌, ⊤, ℕ, ◌⊎◌, true, IfSome, Some, None, Ok, All, List, ◌∷◌, [], ◌++◌, length, flat_map, codes, decimal, Option}
+use Rattle.std.specs.Prelude.{nat_lt, if◌then◌else◌}
 use Rattle.vac_model.specs.declared.limits.TheConstants.{MOST_PARTS}
 use Rattle.vac_model.specs.declared.tasks.Task.{Task}
 use Rattle.vac_model.specs.declared.replies.Reply.{Reply}
@@ -17,12 +18,11 @@ use Rattle.judge_calls.specs.Call.{Call, line_call}
 use Rattle.judge_calls.specs.Verdict.{verdict_on, is_legal}
 use Rattle.judge_calls.specs.Laws.{Lists, IsLinearization}
 
--- END of a call with this reply: `-` for a pending call
-abbrev pub end_text : Option (List ℕ) → ℕ → List ℕ
-end_text None end = codes "-"
-end_text (Some reply) end = decimal end
+-- END of a call: `-` for a pending call
+abbrev pub end_text : ℕ → List ℕ
+end_text end = if nat_lt end NEVER then decimal end else codes "-"
 
--- REPLY of a call: `?` for a pending call
+-- REPLY of a call: `?` for a reply that is not known
 abbrev pub answer_text : Option (List ℕ) → List ℕ
 answer_text None = codes "?"
 answer_text (Some reply) = reply
@@ -31,7 +31,7 @@ answer_text (Some reply) = reply
 abbrev pub call_text : Call → List ℕ
 call_text call =
     decimal call.client ++ codes " " ++ decimal call.begin ++ codes " "
-    ++ end_text call.reply call.end ++ codes " " ++ task_text call.op ++ codes " -> "
+    ++ end_text call.end ++ codes " " ++ task_text call.op ++ codes " -> "
     ++ answer_text call.reply
 
 -- each of the numbers fits 64 bits
@@ -63,8 +63,8 @@ pub record IsAnsweredCall (call : Call) (answer : Reply) : Type 0 where
   pub numbers : IsReply answer
   pub reply : call.reply ≡ Some (reply_text answer)
 
--- a pending call: its numbers fit the widths of their types, its task is valid, and the line of
--- its task is no longer than a line may be
+-- a pending call whose reply is not known: its numbers fit the widths of their types, its task is
+-- valid, and the line of its task is no longer than a line may be
 pub record IsUnanswered (call : Call) : Type 0 where
   pub client : call.client ≤ MOST_CLIENT
   pub begin : call.begin < 2 ^ 64
@@ -72,6 +72,17 @@ pub record IsUnanswered (call : Call) : Type 0 where
   pub task : is_task call.op ≡ true
   pub line : length (task_text call.op) ≤ LINE_BYTES
   pub reply : call.reply ≡ None
+
+-- an undetermined call with this reply: its numbers fit the widths of their types, its task is
+-- valid, and the line of its task is no longer than a line may be
+pub record IsUndetermined (call : Call) (answer : Reply) : Type 0 where
+  pub client : call.client ≤ MOST_CLIENT
+  pub begin : call.begin < 2 ^ 64
+  pub end : call.end ≡ NEVER
+  pub task : is_task call.op ≡ true
+  pub line : length (task_text call.op) ≤ LINE_BYTES
+  pub numbers : IsReply answer
+  pub reply : call.reply ≡ Some (reply_text answer)
 
 -- the completed call with these numbers, this task and this reply
 abbrev pub answered_call : ℕ → ℕ → ℕ → Task → Reply → Call
@@ -83,7 +94,7 @@ answered_call client begin end task answer = record {
   reply = Some (reply_text answer);
 }
 
--- the pending call with these numbers and this task
+-- the pending call with these numbers and this task, whose reply is not known
 abbrev pub unanswered : ℕ → ℕ → Task → Call
 unanswered client begin task = record {
   client = client;
@@ -93,21 +104,32 @@ unanswered client begin task = record {
   reply = None;
 }
 
+-- the undetermined call with these numbers, this task and this reply
+abbrev pub undetermined : ℕ → ℕ → Task → Reply → Call
+undetermined client begin task answer = record {
+  client = client;
+  begin = begin;
+  end = NEVER;
+  op = task;
+  reply = Some (reply_text answer);
+}
+
 -- the written line of a call is no longer than a line of a history may be, and is read back as the
 -- call
 pub record IsReadBackAsCall (call : Call) : Type 0 where
   pub fits : length (call_text call) ≤ CALL_BYTES
   pub read : line_call (call_text call) ≡ Ok call
 
--- the call is completed with some reply, or pending
+-- the call is completed or undetermined with some reply, or pending and its reply is not known
 abbrev pub IsWritten : Call → Type 0
-IsWritten call = ((answer : Reply) × IsAnsweredCall call answer) ⊎ IsUnanswered call
+IsWritten call = ((answer : Reply) × IsAnsweredCall call answer)
+    ⊎ (((answer : Reply) × IsUndetermined call answer) ⊎ IsUnanswered call)
 
--- the written line of every completed or pending call is read back as the call
+-- the written line of every completed, undetermined or pending call is read back as the call
 abbrev pub CallTextsAreRead : Type 0
 CallTextsAreRead = (call : Call) → IsWritten call → IsReadBackAsCall call
 
--- each of the calls is completed with some reply, or pending
+-- each of the calls is completed, undetermined or pending, as `IsWritten` says
 abbrev pub AreWritten : List Call → Type 0
 AreWritten calls = All IsWritten calls
 
@@ -122,7 +144,7 @@ pub record IsTheirHistory (calls : List Call) : Type 0 where
   pub judged : (n : ℕ) → (is_legal (verdict_on n (history_text calls)) ≡ true)
       ↔ IsLinearization n calls
 
--- the written history of any completed and pending calls is read back as those calls, and judged
--- by their order
+-- the written history of any completed, undetermined and pending calls is read back as those calls,
+-- and judged by their order
 abbrev pub HistoriesAreRead : Type 0
 HistoriesAreRead = (calls : List Call) → AreWritten calls → IsTheirHistory calls

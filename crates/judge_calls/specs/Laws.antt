@@ -11,7 +11,7 @@ use Rattle.judge_calls.specs.declared.verdict.Verdict.TheVariants.{Legal}
 use Rattle.judge_calls.specs.Call.{Call, line_call}
 use Rattle.judge_calls.specs.Verdict.{verdict_on, is_legal, summary_of}
 
--- the reply is the given text, or the call is pending
+-- the reply is the given text, or no text is given
 abbrev pub IsAnswerOf : Reply → Option (List ℕ) → Type 0
 IsAnswerOf reply given = object.IsAnswerOf reserving reply given
 

@@ -1,10 +1,10 @@
 -- The cut of a call's line at its first arrow, and the values of its parts.
-use Rattle.std.specs.Prelude.{◌≡◌, ℕ, false, Option, Some, None, List, ◌∷◌, ◌++◌, codes}
+use Rattle.std.specs.Prelude.{◌≡◌, ℕ, false, Option, None, List, ◌∷◌, ◌++◌, codes, unwrap_or}
+use Rattle.std.specs.Option.{option_copied}
 use Rattle.std.specs.List.{list_any}
 use Rattle.vac_lines.specs.Lines.{words_of}
 use Rattle.judge_calls.specs.declared.arrow.CallParts.{CallParts}
-use Rattle.judge_calls.specs.declared.call.Answer.{Answer}
-use Rattle.judge_calls.specs.declared.call.CallLine.{CallLine}
+use Rattle.judge_calls.specs.declared.call_line.CallLine.{CallLine}
 use Rattle.judge_object.specs.declared.span.TheConstants.{NEVER}
 use Rattle.judge_calls.specs.Call.{Call, CallTexts, is_arrow, call_parts}
 
@@ -28,21 +28,15 @@ shown_parts parts = record {
 }
 
 -- END of a call: NEVER for a pending call
-abbrev pub shown_end : Option Answer → ℕ
-shown_end None = NEVER
-shown_end (Some answer) = answer.end
-
--- the text of the reply, or none for a pending call
-abbrev pub shown_reply : Option Answer → Option (List ℕ)
-shown_reply None = None
-shown_reply (Some answer) = Some answer.reply.now
+abbrev pub shown_end : Option ℕ → ℕ
+shown_end end = unwrap_or end NEVER
 
 -- the abstract call of a line that was read
 abbrev pub shown_call : CallLine → Call
 shown_call line = record {
   client = line.client;
   begin = line.begin;
-  end = shown_end line.answer;
+  end = shown_end line.end;
   op = line.task;
-  reply = shown_reply line.answer;
+  reply = option_copied line.reply;
 }

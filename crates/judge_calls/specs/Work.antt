@@ -1,7 +1,7 @@
 -- A history checked against a workload: the verdict on both, as a function of all their bytes. A
 -- workload has lines CLIENT LINE; the lines of a client stand in the order in which its tasks were
 -- given out.
-use Rattle.std.specs.Prelude.{ℕ, ◌+◌, ◌==◌, ◌&&◌, Bool, true, false, not, Option, Some, None, is_none, Result, Ok, Err, List, [], ◌∷◌, ◌++◌, map, length, slice_get, nat_le, codes, decimal, if◌then◌else◌}
+use Rattle.std.specs.Prelude.{ℕ, ◌+◌, ◌==◌, ◌&&◌, Bool, true, false, not, Option, Some, None, Result, Ok, Err, List, [], ◌∷◌, ◌++◌, map, length, slice_get, nat_le, codes, decimal, if◌then◌else◌}
 use Rattle.std.specs.List.{list_any}
 use Rattle.std.specs.Str.{bytes_eq}
 use Rattle.vac_model.specs.declared.tasks.Task.{Task}
@@ -9,6 +9,7 @@ use Rattle.vac_lines.specs.Lines.{lines_of, words_of}
 use Rattle.vac_lines.specs.LineTable.{line_task}
 use Rattle.vac_lines.specs.TaskText.{task_text}
 use Rattle.vac_lines.specs.Script.{as_line}
+use Rattle.judge_object.specs.Call.{is_completed}
 use Rattle.judge_calls.specs.declared.fault.CallFault.{CallFault}
 use Rattle.judge_calls.specs.declared.fault.CallFault.TheVariants.{BadCall}
 use Rattle.judge_calls.specs.declared.verdict.Verdict.{Verdict}
@@ -64,7 +65,7 @@ made_by client (call ∷ calls) =
 
 -- true if the call is a pending call of the client
 abbrev pub is_last : ℕ → Call → Bool
-is_last client call = call.client == client && is_none call.reply
+is_last client call = call.client == client && not (is_completed call)
 
 -- true if one of the calls is a pending call of the client
 abbrev pub has_stopped : ℕ → List Call → Bool

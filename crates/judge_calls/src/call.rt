@@ -1,13 +1,15 @@
 //! Reading a line of a history: its call, or its first fault.
 
-ghost use Rattle.std.specs.Prelude.{◌≡◌, ◌≢◌, true, false, IfOk, IfErr, Ok, Err};
+ghost use Rattle.std.specs.Prelude.{◌≡◌, ◌≢◌, true, false, is_none, IfOk, IfErr, Ok, Err};
+ghost use Rattle.std.specs.Option.{option_copied};
 ghost use Rattle.vac_model.specs.Ranges.{is_task};
-ghost use Rattle.judge_calls.specs.Call.{line_call, parts_call, whole_call, is_half};
-ghost use Rattle.judge_calls.specs.Call.{at_client, at_time, at_end, reply_at};
-ghost use Rattle.judge_object.specs.Call.{span_of};
-ghost use Rattle.judge_calls.specs.Parts.{shown_parts, shown_call, shown_end, shown_reply};
+ghost use Rattle.judge_calls.specs.Call.{line_call, parts_call, whole_call, lacks_reply};
+ghost use Rattle.judge_calls.specs.Call.{at_client, at_time, at_end, reply_at, is_no_end, is_no_reply};
+ghost use Rattle.judge_object.specs.Call.{span_of, is_completed};
+ghost use Rattle.judge_calls.specs.Parts.{shown_parts, shown_call, shown_end};
 
 use crate::arrow::{CallParts, cut_parts};
+use crate::call_line::CallLine;
 use crate::fault::CallFault;
 use judge_object::{NEVER, Span};
 use std::alloc::Global;
@@ -20,40 +22,25 @@ pub const CALL_BYTES: usize = 4096;
 /// The word in the place of END that marks a pending call.
 const NO_END: &[u8] = b"-";
 
-/// The text in the place of REPLY that marks a pending call.
+/// The text in the place of REPLY that marks a reply that is not known.
 const NO_REPLY: &[u8] = b"?";
-
-/// The end and the reply of a completed call.
-#[derive(Clone, Copy)]
-pub struct Answer<'a> {
-    /// A reading of the clock after the call completed.
-    pub end: u64,
-    /// The text of the reply.
-    pub reply: &'a [u8],
-}
-
-/// A call of a history.
-#[derive(Drop)]
-pub struct CallLine<'a> {
-    /// The client that made the call.
-    pub client: u32,
-    /// A reading of the clock before the call began.
-    pub begin: u64,
-    /// The task that the call submitted.
-    pub task: Task,
-    /// The end and the reply, or `None` for a pending call.
-    pub answer: Option<Answer<'a>>,
-}
 
 impl CallLine<'_> {
     /// Returns the end of the call, [`NEVER`] for a pending call.
-    fn end(&self) -> u128
-        ensures { result ≡ shown_end self.now.answer }
+    pub fn end_or_never(&self) -> u128
+        ensures { result ≡ shown_end self.now.end }
     {
-        match self.answer {
-            Some(answer) => u128::from(answer.end),
+        match self.end {
+            Some(end) => u128::from(end),
             None => NEVER,
         }
+    }
+
+    /// Returns whether the call is completed: pending calls, undetermined ones among them, are not.
+    pub(crate) fn is_completed(&self) -> bool
+        ensures { result ≡ is_completed (shown_call self.now) }
+    {
+        self.end_or_never() < NEVER
     }
 
     /// Returns the client and the interval of the call.
@@ -63,7 +50,7 @@ impl CallLine<'_> {
         Span {
             client: self.client,
             begin: self.begin,
-            end: self.end(),
+            end: self.end_or_never(),
         }
     }
 }
@@ -82,32 +69,41 @@ fn time_at(word: &[u8]) -> Result<u64, CallFault>
     read_memory_word(word).ok_or(CallFault::Line(LineFault::BadNumber))
 }
 
-/// Returns whether exactly one of END and REPLY marks a pending call.
-fn is_half(end: &[u8], reply: &[u8]) -> bool
-    ensures { result ≡ is_half end.now reply.now }
+/// Returns whether END is that of a completed call, and REPLY marks a reply that is not known.
+fn lacks_reply(end: &[u8], reply: &[u8]) -> bool
+    ensures { result ≡ lacks_reply end.now reply.now }
 {
-    let has_reply = reply != NO_REPLY;
-    if end == NO_END { has_reply } else { !has_reply }
+    end != NO_END && reply == NO_REPLY
 }
 
-/// Reads the end and the reply of a call. Returns `None` for a pending call.
-fn answer_at<'a>(end: &[u8], reply: &'a [u8]) -> Result<Option<Answer<'a>>, CallFault>
-    requires whole { is_half end.now reply.now ≡ false }
-    ensures end { IfOk result (λ answer. at_end end.now ≡ Ok (shown_end answer)) }
-    ensures reply { IfOk result (λ answer. reply_at reply.now ≡ shown_reply answer) }
-    ensures fault { IfErr result (λ fault. at_end end.now ≡ Err fault) }
+/// Reads the end of a call. Returns `None` for a pending call.
+fn end_at(word: &[u8]) -> Result<Option<u64>, CallFault>
+    ensures end { IfOk result (λ end. at_end word.now ≡ Ok (shown_end end)) }
+    ensures pending { IfOk result (λ end. is_none end ≡ is_no_end word.now) }
+    ensures fault { IfErr result (λ fault. at_end word.now ≡ Err fault) }
 {
-    if end == NO_END {
+    if word == NO_END {
         return Ok(None);
     }
-    let end = time_at(end)?;
-    Ok(Some(Answer { end, reply }))
+    let end = time_at(word)?;
+    Ok(Some(end))
 }
 
-/// Reads the call of the parts of a line, or finds the first fault, if END and REPLY agree on
-/// whether the call is pending.
+/// Returns the text of a reply, or `None` if the reply is not known.
+fn reply_at(text: &[u8]) -> Option<&[u8]>
+    ensures reply { option_copied result ≡ reply_at text.now }
+    ensures unknown { is_none result ≡ is_no_reply text.now }
+{
+    if text == NO_REPLY {
+        return None;
+    }
+    Some(text)
+}
+
+/// Reads the call of the parts of a line, or finds the first fault, if a completed call has a
+/// reply.
 fn whole_call<'a>(alloc: Global, parts: CallParts<'a>) -> Result<CallLine<'a>, CallFault>
-    requires whole { is_half parts.end.now parts.reply.now ≡ false }
+    requires whole { lacks_reply parts.end.now parts.reply.now ≡ false }
     ensures call { IfOk result (λ call.
         whole_call (shown_parts parts.entry) ≡ Ok (shown_call call)) }
     ensures fault { IfErr result (λ fault. fault ≢ CallFault.Line LineFault.Memory →
@@ -116,13 +112,14 @@ fn whole_call<'a>(alloc: Global, parts: CallParts<'a>) -> Result<CallLine<'a>, C
 {
     let client = client_at(parts.client)?;
     let begin = time_at(parts.begin)?;
-    let answer = answer_at(parts.end, parts.reply)?;
+    let end = end_at(parts.end)?;
     let task = read_line(alloc, parts.line)?;
     Ok(CallLine {
         client,
         begin,
+        end,
         task,
-        answer,
+        reply: reply_at(parts.reply),
     })
 }
 
@@ -134,7 +131,7 @@ fn parts_call<'a>(alloc: Global, parts: CallParts<'a>) -> Result<CallLine<'a>, C
         parts_call (shown_parts parts.entry) ≡ Err fault) }
     ensures in_range { IfOk result (λ call. is_task call.task ≡ true) }
 {
-    if is_half(parts.end, parts.reply) {
+    if lacks_reply(parts.end, parts.reply) {
         return Err(CallFault::BadCall);
     }
     whole_call(alloc, parts)

@@ -7,7 +7,7 @@ use vac_lines::LineFault;
 #[derive(Clone, Copy, Debug, PartialEq, Eq, Error)]
 pub enum CallFault {
     /// The first arrow does not have four words or more before it and one or more after it, or
-    /// there is no arrow, or exactly one of END and REPLY marks a pending call.
+    /// there is no arrow, or the call is completed and its reply is not known.
     #[error("the line has no task and reply with an arrow between them")]
     BadCall,
     /// The line is too long or has a bad byte, a word that should be a number is none, or the

@@ -1,16 +1,18 @@
 //! Checking the calls of a history against a workload.
 
-ghost use Rattle.std.specs.Prelude.{◌≡◌, ◌≢◌, ◌∷◌, ◌+◌, ◌||◌, is_none, true, [], IfOk, OnOk, IfErr, None, List, map};
+ghost use Rattle.std.specs.Prelude.{◌≡◌, ◌≢◌, ◌∷◌, ◌+◌, ◌||◌, not, true, [], IfOk, OnOk, IfErr, None, List, map};
 ghost use Rattle.std.specs.Str.{bytes_eq};
 ghost use Rattle.vac_lines.specs.Lines.{lines_of};
 ghost use Rattle.vac_lines.specs.TaskText.{task_text};
+ghost use Rattle.judge_object.specs.Call.{is_completed};
 ghost use Rattle.judge_calls.specs.Call.{Call, line_call};
 ghost use Rattle.judge_calls.specs.Parts.{shown_call};
 ghost use Rattle.judge_calls.specs.Work.{Asked, is_next, first_foreign, first_missing, calls_in};
 ghost use Rattle.judge_calls.specs.Holding.{IsWork, Counts, IsCallCount};
 
 use crate::by_client::ByClient;
-use crate::call::{CallLine, read_call};
+use crate::call::read_call;
+use crate::call_line::CallLine;
 use crate::fault::CallFault;
 use crate::work::{Workload, next_line};
 use std::alloc::{AllocError, Global};
@@ -49,11 +51,11 @@ fn have_one_form(alloc: Global, wanted: &Task, given: &Task) -> Result<bool, All
 fn count_after(so_far: CallCount, call: &CallLine<'_>) -> Result<CallCount, StreamFault>
     ensures made { IfOk result (λ next. next.made ≡ so_far.made + 1) }
     ensures stopped { IfOk result (λ next.
-        next.stopped ≡ (is_none (shown_call call.now).reply || so_far.stopped)) }
+        next.stopped ≡ (not (is_completed (shown_call call.now)) || so_far.stopped)) }
     ensures fault { IfErr result (λ fault. fault ≢ StreamFault.Write) }
 {
     let made = so_far.made.checked_add(1).ok_or(StreamFault::Bound)?;
-    let stopped = call.answer.is_none() || so_far.stopped;
+    let stopped = !call.is_completed() || so_far.stopped;
     Ok(CallCount { made, stopped })
 }
 

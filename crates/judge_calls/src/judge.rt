@@ -1,16 +1,18 @@
 //! Judging one call after another.
 
 ghost use Rattle.std.specs.Prelude.{◌≡◌, ◌≢◌, ◌≤◌, ◌<◌, ◌^◌, ◌+◌, IfOk, IfErr, MatchOption, List, [], true, Err};
+ghost use Rattle.std.specs.Option.{option_copied};
 ghost use Rattle.vac_model.specs.Ranges.{is_task};
 ghost use Rattle.vac_model.specs.State.{State, empty_state};
 ghost use Rattle.vac_lines.specs.Text.{is_right};
 ghost use Rattle.judge_calls.specs.Call.{Call, line_call};
-ghost use Rattle.judge_calls.specs.Parts.{shown_call, shown_reply};
+ghost use Rattle.judge_calls.specs.Parts.{shown_call};
 ghost use Rattle.judge_calls.specs.Judging.{Follows, JudgesTimes, JudgesCall, Takes, DecidesVerdict as IsEnd};
 ghost use Rattle.judge_calls.specs.Judging.{IsJudgeStop};
 ghost use Rattle.judge_calls.specs.Verdict.{summary_of};
 
-use crate::call::{Answer, CallLine, read_call};
+use crate::call::read_call;
+use crate::call_line::CallLine;
 use crate::fault::CallFault;
 use crate::verdict::{CallViolation, Summary, Verdict};
 use judge_object::{Misplaced, Spans};
@@ -33,18 +35,18 @@ pub struct Judge {
     expected: Vec<u8>,
 }
 
-/// Returns whether the reply of a call is the expected one. Any reply is correct for a pending
-/// call. The buffer is overwritten with the expected text; it is passed in so that its room is
-/// used again.
+/// Returns whether the reply of a call is the expected one. If the reply of the call is not known,
+/// any reply is correct. The buffer is overwritten with the expected text; it is passed in so that
+/// its room is used again.
 fn is_expected(
     buffer: &mut Vec<u8>,
-    answer: Option<Answer<'_>>,
+    given: Option<&[u8]>,
     reply: &Reply,
 ) -> Result<bool, AllocError>
-    ensures { IfOk result (λ right. right ≡ is_right (shown_reply answer.entry) reply.now) }
+    ensures { IfOk result (λ right. right ≡ is_right (option_copied given.entry) reply.now) }
 {
-    match answer {
-        Some(answer) => is_text_of(buffer, reply, answer.reply),
+    match given {
+        Some(text) => is_text_of(buffer, reply, text),
         None => Ok(true),
     }
 }
@@ -112,7 +114,7 @@ impl Judge {
             return Ok(Some(wrong));
         }
         let reply = self.heap.run(&call.task, FreeList::new(0));
-        if !is_expected(&mut self.expected, call.answer, &reply)? {
+        if !is_expected(&mut self.expected, call.reply, &reply)? {
             return Ok(Some(CallViolation::Reply(reply)));
         }
         self.spans.push(&call.span())?;

@@ -11,7 +11,7 @@ ghost use Rattle.std.specs.Prelude.{◌≡◌, ◌≤◌, length, true};
 ghost use Rattle.vac_model.specs.Ranges.{is_task};
 ghost use Rattle.vac_lines.specs.TaskText.{task_text};
 ghost use Rattle.judge_calls.specs.CallText.{CallTextsAreRead, HistoriesAreRead, IsReadBackAsCall};
-ghost use Rattle.judge_calls.specs.CallText.{answered_call, unanswered};
+ghost use Rattle.judge_calls.specs.CallText.{answered_call, undetermined, unanswered};
 
 use crate::answers::numbers_of_a_reply;
 use vac_lines::{LINE_BYTES, task_texts_are_read};
@@ -20,8 +20,8 @@ use vac_model::{Reply, Task};
 /// States that a history is legal if and only if each of its lines is a call and the order of the
 /// lines is a linearization. In a linearization the calls, run one after the other, give their
 /// replies; the calls of each client do not overlap and are in their order; and no call comes
-/// before a call that had ended before it began. A pending call ends later than all times and
-/// gives any reply.
+/// before a call that had ended before it began. A pending call ends later than all times. A call
+/// whose reply is not known gives any reply.
 pub fn a_verdict_finds_the_linearizations()
     ensures { LegalIsLinearization }
 {}
@@ -132,10 +132,10 @@ pub fn a_verdict_on_an_order_is_given_if_its_condition_holds()
     a_missing_verdict_names_the_first_task_that_is_left_out();
 }
 
-/// States that the written line of a completed or pending call is no longer than a line of a
-/// history may be, and is read back as the call. The line is `CLIENT BEGIN END LINE -> REPLY`,
-/// with the plain form of the task and the text of the reply, or `CLIENT BEGIN - LINE -> ?` for a
-/// pending call.
+/// States that the written line of a completed, undetermined or pending call is no longer than a
+/// line of a history may be, and is read back as the call. The line is
+/// `CLIENT BEGIN END LINE -> REPLY`, with the plain form of the task and the text of the reply. END
+/// of a pending call is `-`, and REPLY is `?` if the reply is not known.
 pub fn call_texts_are_read()
     ensures { CallTextsAreRead }
 {
@@ -154,8 +154,19 @@ pub fn an_answered_call_is_read(client: u32, begin: u64, end: u64, task: &Task, 
     call_texts_are_read();
 }
 
-/// States that the written line of a pending call is no longer than a line of a history may be,
-/// and is read back as the call.
+/// States that the written line of an undetermined call, with any reply, is no longer than a line
+/// of a history may be, and is read back as the call.
+pub fn an_undetermined_call_is_read(client: u32, begin: u64, task: &Task, reply: &Reply)
+    requires in_range { is_task task.now ≡ true }
+    requires fits { length (task_text task.now) ≤ LINE_BYTES }
+    ensures { IsReadBackAsCall (undetermined client begin task.now reply.now) }
+{
+    numbers_of_a_reply(reply);
+    call_texts_are_read();
+}
+
+/// States that the written line of a pending call whose reply is not known is no longer than a line
+/// of a history may be, and is read back as the call.
 pub fn a_call_never_answered_is_read(client: u32, begin: u64, task: &Task)
     requires in_range { is_task task.now ≡ true }
     requires fits { length (task_text task.now) ≤ LINE_BYTES }
@@ -164,8 +175,8 @@ pub fn a_call_never_answered_is_read(client: u32, begin: u64, task: &Task)
     call_texts_are_read();
 }
 
-/// States that the written history of some completed and pending calls, one line for each, has
-/// exactly these calls, and is legal if and only if their order is a linearization.
+/// States that the written history of some completed, undetermined and pending calls, one line for
+/// each, has exactly these calls, and is legal if and only if their order is a linearization.
 pub fn histories_are_read()
     ensures { HistoriesAreRead }
 {

@@ -2,14 +2,18 @@
 //! are given is a linearization of the calls.
 //!
 //! A history is a text of lines `CLIENT BEGIN END LINE -> REPLY`, or `CLIENT BEGIN - LINE -> ?`
-//! for a pending call, in the order in which the runtime claims that the calls took effect. The
-//! tasks are run over plain memory, one after the other in that order.
+//! for a pending call, in the order in which the runtime claims that the calls took effect. A line
+//! `CLIENT BEGIN - LINE -> REPLY` holds an undetermined call: a pending call that took effect with
+//! this reply, or never took effect. The tasks are run over plain memory, one after the other in
+//! the order of the lines. So an undetermined call took effect if it has a line here, and must have
+//! its reply.
 #![tactic(auto)]
 
 mod answers;
 mod arrow;
 mod by_client;
 mod call;
+mod call_line;
 mod fault;
 mod held;
 mod holding;
@@ -21,7 +25,8 @@ mod verdict;
 mod work;
 
 pub use answers::numbers_of_a_reply;
-pub use call::{Answer, CALL_BYTES, CallLine, read_call};
+pub use call::{CALL_BYTES, read_call};
+pub use call_line::CallLine;
 pub use fault::CallFault;
 pub use held::{WorkloadVerdict, judge_with_workload, print_workload_verdict, read_all};
 pub use in_order::{OrderVerdict, judge_order_with_workload};
@@ -35,7 +40,8 @@ pub use laws::{
     a_missing_verdict_names_the_first_task_that_is_left_out, a_verdict_finds_the_linearizations,
     a_verdict_on_an_order_is_given_if_its_condition_holds, a_whole_history_is_of_all_the_work,
     an_answered_call_is_read, an_illegal_verdict_names_the_first_wrong_line,
-    bad_tasks_name_the_first_line_without_a_task, call_texts_are_read, histories_are_read,
+    an_undetermined_call_is_read, bad_tasks_name_the_first_line_without_a_task,
+    call_texts_are_read, histories_are_read,
 };
 pub use reading::judge_history;
 pub use verdict::{CallViolation, Summary, Verdict, print_verdict};

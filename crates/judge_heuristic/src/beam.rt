@@ -329,7 +329,7 @@ pub(crate) fn find_by_beam<M: Object<Op = ValidTask, Reply = Reply> + Drop, P: W
     let most = lines.len().saturating_mul(MOST_FOR_EACH).min(MOST_IN_ALL);
     for made in 0..steps {
         watcher.tell(beam.level, made);
-        if beam.level == layout.answered {
+        if beam.level == layout.completed {
             return beam.places();
         }
         if most < beam.expanded || !beam.step(lines, layout)? {

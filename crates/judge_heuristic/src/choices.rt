@@ -2,7 +2,7 @@
 
 use crate::layout::Layout;
 use crate::search::{QuickSearch, led_from, led_to};
-use crate::trail::Trail;
+use crate::trail::{Trail, is_completed};
 use judge_object::{Line, Object};
 use judge_reservations::ValidTask;
 use std::alloc::{AllocError, Global};
@@ -86,7 +86,7 @@ impl<M: Object<Op = ValidTask, Reply = Reply> + Drop> QuickSearch<M> {
             return Ok(false);
         };
         let is_needed = match led_to(&mut self.text, Some(after), lines, place)? {
-            None => true,
+            None => is_completed(lines, place),
             Some(later) if later.hash() == both.hash() => return Ok(false),
             Some(_) => false,
         };
@@ -129,7 +129,8 @@ impl<M: Object<Op = ValidTask, Reply = Reply> + Drop> QuickSearch<M> {
         let is_first = if layout.meets(self.trail.low, place) {
             self.is_first(lines, place, &now, after)?
         } else {
-            led_to(&mut self.text, Some(after), lines, place)?.is_none()
+            is_completed(lines, place)
+                && led_to(&mut self.text, Some(after), lines, place)?.is_none()
                 && self.is_full_first(lines, &now)?
         };
         if is_first { Ok(Some(now)) } else { Ok(None) }

@@ -28,12 +28,12 @@ pub(crate) struct SearchCounts {
 
 impl SearchCounts {
     /// Creates the counts of a search that begins, for this number of completed calls.
-    pub(crate) fn new(answered: u64) -> SearchCounts {
+    pub(crate) fn new(completed: u64) -> SearchCounts {
         SearchCounts {
             most: 0,
             fails: 0,
             jumps: 0,
-            looks: answered.wrapping_mul(LOOKS),
+            looks: completed.wrapping_mul(LOOKS),
             drawn: 1,
         }
     }

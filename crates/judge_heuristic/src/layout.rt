@@ -2,7 +2,7 @@
 //! the layout.
 
 use crate::configuration::Chain;
-use judge_object::Line;
+use judge_object::{Line, NEVER};
 use judge_reservations::ValidTask;
 use std::alloc::{AllocError, Global};
 use std::collections::BTreeMap;
@@ -37,7 +37,7 @@ pub(crate) struct Layout {
     /// The position of each client's first call.
     firsts: Vec<usize>,
     /// Number of completed calls.
-    pub(crate) answered: u64,
+    pub(crate) completed: u64,
 }
 
 /// The clients of the calls: their numbers, and the position of the last call of each.
@@ -201,7 +201,7 @@ impl Layout {
             spots: Vec::new(alloc),
             keys: Vec::new(alloc),
             firsts: Vec::new(alloc),
-            answered: 0,
+            completed: 0,
         };
         let mut clients = Clients {
             numbers: BTreeMap::new(alloc),
@@ -242,8 +242,8 @@ impl Layout {
     ) -> Result<(), AllocError> {
         let from = self.keys.len();
         add_keys(line.op.task(), &mut self.keys)?;
-        if line.reply.is_some() {
-            self.answered = self.answered.wrapping_add(1);
+        if line.end < NEVER {
+            self.completed = self.completed.wrapping_add(1);
         }
         self.spots.push(Spot {
             client,
@@ -309,7 +309,7 @@ impl Layout {
 
     /// Returns whether a call is pending.
     pub(crate) fn has_pending(&self) -> bool {
-        self.answered < self.len() as u64
+        self.completed < self.len() as u64
     }
 
     /// Returns the chain of one call.

@@ -52,7 +52,7 @@ pub fn find_quickly<M: Object<Op = ValidTask, Reply = Reply> + Drop, P: Watcher>
     watcher: &mut P,
 ) -> Result<Option<Vec<usize>>, AllocError> {
     let layout = Layout::new(alloc, lines)?;
-    if layout.answered == 0 {
+    if layout.completed == 0 {
         return Ok(None);
     }
     if layout.has_pending()

@@ -113,7 +113,7 @@ impl<M: Object<Op = ValidTask, Reply = Reply> + Drop> QuickSearch<M> {
             plan: Vec::new(alloc),
             choice_points: ChoicePoints::new(alloc),
             cut: None,
-            counts: SearchCounts::new(layout.answered),
+            counts: SearchCounts::new(layout.completed),
             text: Vec::new(alloc),
         })
     }
@@ -196,7 +196,7 @@ impl<M: Object<Op = ValidTask, Reply = Reply> + Drop> QuickSearch<M> {
             self.choice_points.leave();
             self.cut = None;
         }
-        if self.trail.placed == layout.answered {
+        if self.trail.placed == layout.completed {
             return Ok(Quick::Found);
         }
         Ok(Quick::On)

@@ -3,7 +3,7 @@
 use crate::configuration::{Chain, Configuration};
 use crate::layout::Layout;
 use crate::search::led_to;
-use crate::trail::is_answered;
+use crate::trail::is_completed;
 use judge_object::{Line, Object};
 use judge_reservations::ValidTask;
 use std::alloc::{AllocError, Global};
@@ -188,7 +188,7 @@ impl<M: Object<Op = ValidTask, Reply = Reply> + Drop> Successors<M> {
         let low = from.low;
         for client in 0..from.heads.len() {
             let second = from.heads[client];
-            if second == first || !from.is_open(lines, second) || is_answered(lines, second) {
+            if second == first || !from.is_open(lines, second) || is_completed(lines, second) {
                 continue;
             }
             if !layout.may_meet(low, second) {
@@ -240,7 +240,7 @@ impl<M: Object<Op = ValidTask, Reply = Reply> + Drop> Successors<M> {
     ) -> Result<(), AllocError> {
         for client in 0..from.heads.len() {
             let first = from.heads[client];
-            if !from.is_open(lines, first) || is_answered(lines, first) {
+            if !from.is_open(lines, first) || is_completed(lines, first) {
                 continue;
             }
             if !layout.may_meet(place, first) {
@@ -287,7 +287,7 @@ impl<M: Object<Op = ValidTask, Reply = Reply> + Drop> Successors<M> {
             if !from.is_open(lines, place) {
                 continue;
             }
-            if is_answered(lines, place) {
+            if is_completed(lines, place) {
                 self.add_beside(lines, layout, from, place)?;
             } else {
                 self.add_needed(lines, layout, from, place)?;
@@ -310,7 +310,7 @@ impl<M: Object<Op = ValidTask, Reply = Reply> + Drop> Successors<M> {
             if !from.is_open(lines, place) {
                 continue;
             }
-            if !is_answered(lines, place) {
+            if !is_completed(lines, place) {
                 if self.is_wide {
                     self.add_eager(lines, layout, from, place, &after)?;
                 }

@@ -1,7 +1,7 @@
 //! The trail of a quick search: the calls that were made, in their order.
 
 use crate::layout::Layout;
-use judge_object::Line;
+use judge_object::{Line, NEVER};
 use judge_reservations::ValidTask;
 use std::alloc::{AllocError, Global};
 
@@ -47,8 +47,8 @@ pub(crate) struct Trail {
 }
 
 /// Returns whether the call at a position is completed.
-pub(crate) fn is_answered(lines: &[Line<ValidTask>], place: usize) -> bool {
-    place < lines.len() && lines[place].reply.is_some()
+pub(crate) fn is_completed(lines: &[Line<ValidTask>], place: usize) -> bool {
+    place < lines.len() && lines[place].end < NEVER
 }
 
 impl Tail {
@@ -134,7 +134,7 @@ impl Trail {
         let spot = layout.spot(turn.place);
         self.path.push(turn)?;
         self.set_head(spot.client, spot.next);
-        if is_answered(lines, turn.place) {
+        if is_completed(lines, turn.place) {
             self.placed = self.placed.wrapping_add(1);
         }
         Ok(())
@@ -146,7 +146,7 @@ impl Trail {
         self.low = turn.low;
         self.is_full = turn.is_full;
         self.set_head(layout.spot(turn.place).client, turn.place);
-        if is_answered(lines, turn.place) {
+        if is_completed(lines, turn.place) {
             self.placed = self.placed.wrapping_sub(1);
         }
         Some(turn)

@@ -4,7 +4,7 @@
 use crate::index::Index;
 use crate::proposals::Names;
 use crate::quick::find_quickly;
-use judge_object::{Line, Object};
+use judge_object::{Line, NEVER, Object};
 use judge_part::{Scope, fits, part_of_history};
 use judge_reservations::{Reservations, ValidTask};
 use std::alloc::{AllocError, Global};
@@ -122,7 +122,7 @@ impl Trial<'_> {
         let mut items = Vec::new(alloc);
         for at in 0..places.len() {
             let place = places[at];
-            if place < self.lines.len() && self.lines[place].reply.is_some() {
+            if place < self.lines.len() && self.lines[place].end < NEVER {
                 push_items(self.lines[place].op.task(), &mut items)?;
             }
         }
@@ -204,7 +204,7 @@ impl Trial<'_> {
 
     /// Returns whether a quick search finds an order of a part.
     fn has_order(&self, alloc: Global, part: &[Line<ValidTask>]) -> Result<bool, AllocError> {
-        if !part.iter().any(|line| line.reply.is_some()) {
+        if !part.iter().any(|line| line.end < NEVER) {
             return Ok(true);
         }
         let steps = (part.len() as u64)

@@ -1,12 +1,12 @@
 -- Cuts of histories: a cut of a linearizable history is linearizable, and a cut of a cut is a cut.
 use Rattle.std.proofs.Common.{◌≡◌, ◌⊎◌, ℕ, ◌<◌, ◌≤◌, ◌==◌, suc, zero, Bool, true, false, cond, List, [], ◌∷◌, ◌++◌}
 use Rattle.std.proofs.Common.{Option, Some, None, refl, sym, ap, ◌∙◌, subst, inl, inr, arith, append_assoc}
-use Rattle.std.specs.Prelude.{nat_le}
+use Rattle.std.specs.Prelude.{nat_le, nat_lt}
 use Rattle.std.specs.List.{filter_map, cons_option}
 use Rattle.std.proofs.lemmas.Bool.Decides.{nat_tests}
 use Rattle.judge_object.specs.declared.span.TheConstants.{NEVER}
 use Rattle.judge_object.specs.Rules.{Rules}
-use Rattle.judge_object.specs.Call.{Call, EachCall, is_answered}
+use Rattle.judge_object.specs.Call.{Call, EachCall, is_completed}
 use Rattle.judge_object.specs.Linear.{IsCallAt, CallsTakeTime, CallsAreSequential, CallsKeepPrecedence}
 use Rattle.judge_object.specs.Linear.{GiveReplies}
 use Rattle.judge_object.specs.Orders.{of_client, IsMerge, IsLinearizable}
@@ -34,6 +34,14 @@ filter_append f (x ∷ xs) ys =
       | Some y ↦ ap (λ l. y ∷ l) (filter_append f xs ys)
     ]
 
+-- a running call is pending
+running_pending : (end : ℕ) → nat_lt (cond {A = ℕ} (nat_lt end NEVER) NEVER end) NEVER ≡ false
+running_pending end = go (nat_lt end NEVER) refl
+  where
+    go : (b : Bool) → nat_lt end NEVER ≡ b → nat_lt (cond {A = ℕ} b NEVER end) NEVER ≡ false
+    go true t = refl
+    go false t = t
+
 -- a running call does not end by the moment
 running_end : (answered : Bool) (end moment : ℕ) → moment < end → moment < NEVER →
     moment < cond {A = ℕ} answered NEVER end
@@ -60,18 +68,27 @@ module _ {O : Type 0} where
 
   -- ---- cuts of cuts
 
+  running_twice : (call : Call O) → running (running call) ≡ running call
+  running_twice call = ap (λ b. record {
+    client = call.client;
+    begin = call.begin;
+    end = cond {A = ℕ} b NEVER (cond {A = ℕ} (is_completed call) NEVER call.end);
+    op = call.op;
+    reply = call.reply;
+  }) (running_pending call.end)
+
   same_running : (earlier later : ℕ) (call : Call O) → earlier ≤ later → earlier < NEVER → later < call.end →
       cut_call earlier (running call) ≡ cut_call earlier call
   same_running earlier later call l n after =
       let late : earlier < call.end = omega (arith, l, after) in
-      let end : earlier < (running call).end = running_end (is_answered call) call.end earlier late n in
+      let end : earlier < (running call).end = running_end (is_completed call) call.end earlier late n in
       elim (at_moment earlier call) [
         | inl h ↦ absurd (let ended = h.0 in omega (arith, ended, late))
         | inr more ↦ elim (at_moment earlier (running call)) [
           | inl h ↦ absurd (let ended = h.0 in omega (arith, ended, end))
           | inr other ↦ elim more [
             | inl h ↦ elim other [
-              | inl g ↦ g.2 ∙ sym h.2
+              | inl g ↦ g.2 ∙ ap Some (running_twice call) ∙ sym h.2
               | inr g ↦ absurd (let a = h.1 in let b = g.1 in omega (arith, a, b))
             ]
             | inr h ↦ elim other [
@@ -151,18 +168,18 @@ module _ {O : Type 0} where
   each_join P (x ∷ xs) ys p q = (p.0, each_join P xs ys p.1 q)
 
   pending_option : (moment : ℕ) (c : Call O) (o : Option (Call O)) → cut_call moment c ≡ o →
-      is_answered c ≡ false ⊎ (moment < c.end) → (rest : List (Call O)) →
-      EachCall (λ d. is_answered d ≡ false) rest → EachCall (λ d. is_answered d ≡ false) (cons_option o rest)
+      is_completed c ≡ false ⊎ (moment < c.end) → (rest : List (Call O)) →
+      EachCall (λ d. is_completed d ≡ false) rest → EachCall (λ d. is_completed d ≡ false) (cons_option o rest)
   pending_option moment c None e h rest more = more
   pending_option moment c (Some d) e h rest more = (never, more)
     where
-      running_never : d ≡ running c → is_answered d ≡ false
-      running_never s = ap (λ (x : Call O). is_answered x) s
+      running_never : d ≡ running c → is_completed d ≡ false
+      running_never s = ap (λ (x : Call O). is_completed x) s ∙ running_pending c.end
 
-      never : is_answered d ≡ false
+      never : is_completed d ≡ false
       never = elim (at_moment moment c) [
         | inl g ↦ elim h [
-          | inl pending ↦ ap (λ (x : Call O). is_answered x) (some_same d c (sym e ∙ g.1)) ∙ pending
+          | inl pending ↦ ap (λ (x : Call O). is_completed x) (some_same d c (sym e ∙ g.1)) ∙ pending
           | inr late ↦ absurd (let ended = g.0 in omega (arith, ended, late))
         ]
         | inr other ↦ elim other [
@@ -171,8 +188,8 @@ module _ {O : Type 0} where
         ]
       ]
 
-  all_pending : (moment : ℕ) (cs : List (Call O)) → EachCall (λ c. is_answered c ≡ false ⊎ (moment < c.end)) cs →
-      EachCall (λ d. is_answered d ≡ false) (cut moment cs)
+  all_pending : (moment : ℕ) (cs : List (Call O)) → EachCall (λ c. is_completed c ≡ false ⊎ (moment < c.end)) cs →
+      EachCall (λ d. is_completed d ≡ false) (cut moment cs)
   all_pending moment [] h = tt
   all_pending moment (c ∷ cs) h =
       pending_option moment c (cut_call moment c) refl h.0 (cut moment cs) (all_pending moment cs h.1)
@@ -304,7 +321,7 @@ module _ {O : Type 0} where
     client = ap (λ (x : Call O). x.client) (sym same);
     begin = ap (λ (x : Call O). x.begin) (sym same);
     begun = begun;
-    end = inr (late, subst (λ (x : Call O). moment < x.end) same (running_end (is_answered c) c.end moment late n));
+    end = inr (late, subst (λ (x : Call O). moment < x.end) same (running_end (is_completed c) c.end moment late n));
   }
 
   stood : (moment : ℕ) (cs : List (Call O)) → moment < NEVER →
@@ -387,7 +404,7 @@ module _ {S O R : Type 0} (X : Rules S O R) where
       elim (at_moment moment c) [
         | inl g ↦ subst (λ o. GiveReplies X s (cons_option o (cut moment cs))) (sym g.1) (h.0, rest)
         | inr more ↦ elim more [
-          | inl g ↦ subst (λ o. GiveReplies X s (cons_option o (cut moment cs))) (sym g.2) (tt, rest)
+          | inl g ↦ subst (λ o. GiveReplies X s (cons_option o (cut moment cs))) (sym g.2) (h.0, rest)
           | inr g ↦ absurd (let late = g.1 in let first = begun 0 c refl in omega (arith, late, first))
         ]
       ]
@@ -413,11 +430,11 @@ module _ {S O R : Type 0} (X : Rules S O R) where
           left = left;
           merges = subst (IsMerge (cut moment calls)) (sym all)
               (merge_cut moment calls (h.order ++ h.orders.left) h.orders.merges);
-          never = each_join (λ d. is_answered d ≡ false) (cut moment parts.back) (cut moment h.orders.left)
+          never = each_join (λ d. is_completed d ≡ false) (cut moment parts.back) (cut moment h.orders.left)
               (all_pending moment parts.back (each_then (λ c. moment < c.end)
-              (λ c. is_answered c ≡ false ⊎ (moment < c.end)) (λ c late. inr late) parts.back parts.never))
-              (all_pending moment h.orders.left (each_then (λ c. is_answered c ≡ false)
-              (λ c. is_answered c ≡ false ⊎ (moment < c.end)) (λ c never. inl never) h.orders.left h.orders.never));
+              (λ c. is_completed c ≡ false ⊎ (moment < c.end)) (λ c late. inr late) parts.back parts.never))
+              (all_pending moment h.orders.left (each_then (λ c. is_completed c ≡ false)
+              (λ c. is_completed c ≡ false ⊎ (moment < c.end)) (λ c never. inl never) h.orders.left h.orders.never));
         };
         linearization = record {
           replies = cut_replies moment s front begun (front_replies s front parts.back

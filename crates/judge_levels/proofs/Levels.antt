@@ -1,7 +1,7 @@
 -- A history is at a level if and only if it is linearizable without the order that the level does not keep.
 use Rattle.std.proofs.Common.{◌≡◌, ◌≢◌, ℕ, ◌+◌, ◌<◌, ◌==◌, Bool, true, false, cond, List, [], ◌∷◌, ◌++◌}
-use Rattle.std.proofs.Common.{map, Option, is_some, refl, sym, ap, ◌∙◌, subst, inl, inr, arith}
-use Rattle.std.specs.Prelude.{IsPermutation}
+use Rattle.std.proofs.Common.{map, refl, sym, ap, ◌∙◌, subst, inl, inr, arith}
+use Rattle.std.specs.Prelude.{IsPermutation, nat_lt}
 use Rattle.std.proofs.lemmas.List.{map-append}
 use Rattle.std.proofs.lemmas.List.Sorted.{IsPermutation-map}
 use Rattle.std.proofs.lemmas.Bool.Decides.{nat_tests}
@@ -13,15 +13,24 @@ use Rattle.judge_levels.specs.Laws.{LinearizableIsSequential, SequentialIsSerial
 use Rattle.judge_levels.proofs.Merges.{test, AreApart, count, count_cons, cons_same, without, merge_rest, merge_moves}
 use Rattle.judge_levels.proofs.Merges.{moved_merges, moved_apart, parted, lifted, own_head, count_front}
 use Rattle.judge_levels.proofs.Times.{IsUntimed, apart_linearization, last_linearization}
+use Rattle.judge_object.specs.declared.span.TheConstants.{NEVER}
 use Rattle.judge_object.specs.Rules.{Rules, IsAnswerOf}
-use Rattle.judge_object.specs.Call.{Call, EachCall, is_answered}
+use Rattle.judge_object.specs.Call.{Call, EachCall, is_completed}
 use Rattle.judge_object.specs.Linear.{GiveReplies}
 use Rattle.judge_object.specs.Orders.{of_client, IsMerge, IsLinearizable}
 
+-- a call without times is completed if the call is
+pub same_completed : (e : ℕ) → nat_lt (cond {A = ℕ} (nat_lt e NEVER) 0 e) NEVER ≡ nat_lt e NEVER
+same_completed e = go (nat_lt e NEVER) refl
+  where
+    go : (b : Bool) → nat_lt e NEVER ≡ b → nat_lt (cond {A = ℕ} b 0 e) NEVER ≡ b
+    go true t = refl
+    go false t = t
+
 -- a completed call without times ends at 0
-pub ended : (b : Bool) (e : ℕ) → b ≡ true → cond {A = ℕ} b 0 e ≡ 0
-ended true e t = refl
-ended false e t = cc
+pub ended : (e : ℕ) → nat_lt (cond {A = ℕ} (nat_lt e NEVER) 0 e) NEVER ≡ true →
+    cond {A = ℕ} (nat_lt e NEVER) 0 e ≡ 0
+ended e t = ap (λ b. cond {A = ℕ} b 0 e) (sym (same_completed e) ∙ t)
 
 module _ {O : Type 0} where
   -- calls with their numbers
@@ -68,17 +77,18 @@ module _ {O : Type 0} where
       ]
 
   pub untimed_is : (n : ℕ) (c : Call O) → IsUntimed (untimed_as n c)
-  untimed_is n c = record { begin = refl; end = ended (is_answered c) c.end }
+  untimed_is n c = record { begin = refl; end = ended c.end }
 
   -- facts of the calls that a map gives
-  module _ {P : Type 0} (f g : P → Call O) (same : (p : P) → (f p).reply ≡ (g p).reply) where
-    never_map : (ps : List P) → EachCall (λ c. is_answered c ≡ false) (map f ps) →
-        EachCall (λ c. is_answered c ≡ false) (map g ps)
-    never_map [] h = tt
-    never_map (p ∷ ps) h =
-        (ap (λ (r : Option (List ℕ)). is_some r) (sym (same p)) ∙ h.0, never_map ps h.1)
+  module _ {P : Type 0} (f g : P → Call O) where
+    never_map : ((p : P) → is_completed (f p) ≡ is_completed (g p)) → (ps : List P) →
+        EachCall (λ c. is_completed c ≡ false) (map f ps) →
+        EachCall (λ c. is_completed c ≡ false) (map g ps)
+    never_map same [] h = tt
+    never_map same (p ∷ ps) h = (sym (same p) ∙ h.0, never_map same ps h.1)
 
-    module _ {S R : Type 0} (X : Rules S O R) (op : (p : P) → (f p).op ≡ (g p).op) where
+    module _ (same : (p : P) → (f p).reply ≡ (g p).reply) {S R : Type 0} (X : Rules S O R)
+        (op : (p : P) → (f p).op ≡ (g p).op) where
       replies_map : (s : S) (ps : List P) → GiveReplies X s (map f ps) → GiveReplies X s (map g ps)
       replies_map s [] h = tt
       replies_map s (p ∷ ps) h = (
@@ -108,7 +118,7 @@ module _ {O : Type 0} where
   pub only_map : (cs : List (Call O)) → OnlyLastIsPending cs → OnlyLastIsPending (map untimed cs)
   only_map [] h = tt
   only_map (c ∷ []) h = tt
-  only_map (c ∷ d ∷ cs) h = (h.0, only_map (d ∷ cs) h.1)
+  only_map (c ∷ d ∷ cs) h = (same_completed c.end ∙ h.0, only_map (d ∷ cs) h.1)
 
   -- an order of the calls without times is one of the calls
   record Given (xs ys : List (Call O)) : Type 0 where
@@ -166,15 +176,15 @@ module _ {O : Type 0} where
         gives = ap (λ c. c ∷ map untimed more.from) one.3 ∙ ap (λ l. y ∷ l) more.gives;
       }
 
-  never_untimed : (cs : List (Call O)) → EachCall (λ c. is_answered c ≡ false) cs →
-      EachCall (λ c. is_answered c ≡ false) (map untimed cs)
+  never_untimed : (cs : List (Call O)) → EachCall (λ c. is_completed c ≡ false) cs →
+      EachCall (λ c. is_completed c ≡ false) (map untimed cs)
   never_untimed [] h = tt
-  never_untimed (c ∷ cs) h = (h.0, never_untimed cs h.1)
+  never_untimed (c ∷ cs) h = (same_completed c.end ∙ h.0, never_untimed cs h.1)
 
-  untimed_never : (cs : List (Call O)) → EachCall (λ c. is_answered c ≡ false) (map untimed cs) →
-      EachCall (λ c. is_answered c ≡ false) cs
+  untimed_never : (cs : List (Call O)) → EachCall (λ c. is_completed c ≡ false) (map untimed cs) →
+      EachCall (λ c. is_completed c ≡ false) cs
   untimed_never [] h = tt
-  untimed_never (c ∷ cs) h = (h.0, untimed_never cs h.1)
+  untimed_never (c ∷ cs) h = (sym (same_completed c.end) ∙ h.0, untimed_never cs h.1)
 
   front_apart : (xs ys : List (Call O)) → AreApart (xs ++ ys) → AreApart xs
   front_apart xs ys h k = let all = h k in let less = count_front k xs ys in omega arith
@@ -232,7 +242,7 @@ module _ {S O R : Type 0} (X : Rules S O R) where
         orders = record {
           left = parts.back;
           merges = subst (IsMerge calls) parts.whole from.merges;
-          never = untimed_never parts.back (subst (EachCall (λ c. is_answered c ≡ false)) (sym parts.back_is)
+          never = untimed_never parts.back (subst (EachCall (λ c. is_completed c ≡ false)) (sym parts.back_is)
               h.orders.never);
         };
         replies = untimed_replies s parts.front (subst (GiveReplies X s) (sym parts.front_is) h.linearization.replies);
@@ -256,8 +266,8 @@ module _ {S O R : Type 0} (X : Rules S O R) where
         orders = record {
           left = map own parts.back;
           merges = moved_merges (alone 1 calls) (map own parts.front ++ map own parts.back) moved (alone_apart 1 calls);
-          never = never_map call own (λ p. refl) parts.back
-              (subst (EachCall (λ c. is_answered c ≡ false)) (sym parts.back_is) h.selects.never);
+          never = never_map call own (λ p. sym (same_completed p.1.end)) parts.back
+              (subst (EachCall (λ c. is_completed c ≡ false)) (sym parts.back_is) h.selects.never);
         };
         linearization = apart_linearization X s (map own parts.front)
             (each_untimed own (λ p. untimed_is p.0 p.1) parts.front)
@@ -282,8 +292,8 @@ module _ {S O R : Type 0} (X : Rules S O R) where
           all = subst (λ l. IsPermutation l (map call parts.front ++ map call parts.back)) (call_is 1 calls)
               (subst (IsPermutation (map call ps)) (ap (map call) parts.whole ∙ map-append call parts.front parts.back)
               (IsPermutation-map call ps from.from from.moved));
-          never = never_map own call (λ p. refl) parts.back
-              (subst (EachCall (λ c. is_answered c ≡ false)) (sym parts.back_is) h.orders.never);
+          never = never_map own call (λ p. same_completed p.1.end) parts.back
+              (subst (EachCall (λ c. is_completed c ≡ false)) (sym parts.back_is) h.orders.never);
         };
         replies = replies_map own call (λ p. refl) X (λ p. refl) s parts.front
             (subst (GiveReplies X s) (sym parts.front_is) h.linearization.replies);

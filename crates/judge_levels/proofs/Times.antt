@@ -2,7 +2,7 @@
 use Rattle.std.proofs.Common.{◌≡◌, ℕ, ◌+◌, ◌<◌, ◌≤◌, suc, zero, true, false, List, [], ◌∷◌, ◌++◌}
 use Rattle.std.proofs.Common.{Some, None, refl, sym, ap, ◌∙◌, subst, inl, inr, arith}
 use Rattle.judge_object.specs.Rules.{Rules}
-use Rattle.judge_object.specs.Call.{Call, EachCall, is_answered}
+use Rattle.judge_object.specs.Call.{Call, EachCall, is_completed}
 use Rattle.judge_object.specs.Linear.{IsCallAt, CallsTakeTime, CallsAreSequential, CallsKeepPrecedence}
 use Rattle.judge_object.specs.Linear.{GiveReplies, IsLinearization}
 use Rattle.judge_object.specs.Orders.{of_client}
@@ -27,7 +27,7 @@ module _ {O : Type 0} where
   -- a call that begins at the time 0, and ends then if it is completed
   pub record IsUntimed (call : Call O) : Type 0 where
     pub begin : call.begin ≡ 0
-    pub end : is_answered call ≡ true → call.end ≡ 0
+    pub end : is_completed call ≡ true → call.end ≡ 0
 
   take_time : (xs : List (Call O)) → EachCall IsUntimed xs → CallsTakeTime xs
   take_time xs h i a e = let u = (at_each IsUntimed xs i a h e).begin in omega (arith, u)
@@ -96,11 +96,11 @@ module _ {O : Type 0} where
       ]
 
   followed : (x : Call O) (cs : List (Call O)) (first : Call O) (more : List (Call O)) → cs ≡ first ∷ more →
-      OnlyLastIsPending (x ∷ cs) → is_answered x ≡ true
+      OnlyLastIsPending (x ∷ cs) → is_completed x ≡ true
   followed x cs first more e h = (subst (λ l. OnlyLastIsPending (x ∷ l)) e h).0
 
   completed : (xs ys : List (Call O)) (i j : ℕ) (a b : Call O) → IsCallAt xs i a → IsCallAt xs j b → i < j →
-      a.client ≡ b.client → OnlyLastIsPending (of_client a.client (xs ++ ys)) → is_answered a ≡ true
+      a.client ≡ b.client → OnlyLastIsPending (of_client a.client (xs ++ ys)) → is_completed a ≡ true
   completed [] ys i j a b d e l s h = absurd (none_some a d)
   completed (x ∷ xs) ys zero zero a b d e l s h = absurd (omega arith)
   completed (x ∷ xs) ys zero (suc j) a b d e l s h =
@@ -111,7 +111,7 @@ module _ {O : Type 0} where
       in
       let is : of_client x.client (xs ++ ys) ≡ more.0 ∷ more.1 =
       ap (λ (c : Call O). of_client c.client (xs ++ ys)) same ∙ ap (λ k. of_client k (xs ++ ys)) s ∙ more.2 in
-      subst (λ c. is_answered c ≡ true) same (followed x (of_client x.client (xs ++ ys)) more.0 more.1 is own)
+      subst (λ c. is_completed c ≡ true) same (followed x (of_client x.client (xs ++ ys)) more.0 more.1 is own)
   completed (x ∷ xs) ys (suc i) zero a b d e l s h = absurd (omega arith)
   completed (x ∷ xs) ys (suc i) (suc j) a b d e l s h =
       completed xs ys i j a b d e (omega arith) s (last_rest a.client x (xs ++ ys) h)

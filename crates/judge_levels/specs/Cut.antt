@@ -5,19 +5,20 @@ use Rattle.std.specs.Option.{option_map}
 use Rattle.judge_levels.specs.Relaxed.{call_of}
 use Rattle.judge_object.specs.declared.line.Line.{Line}
 use Rattle.judge_object.specs.Rules.{Rules}
-use Rattle.judge_object.specs.Call.{Call, is_answered}
+use Rattle.judge_object.specs.Call.{Call, is_completed}
 use Rattle.judge_object.specs.Orders.{IsLinearizable}
 use Rattle.judge_object.specs.declared.span.TheConstants.{NEVER}
 
 module _ {O : Type 0} where
-  -- a call that is running: without reply and end
+  -- a call that is running: without end. Its reply is kept if it is known: then the call gave this
+  -- reply, or never took effect
   abbrev pub running : Call O → Call O
   running call = record {
     client = call.client;
     begin = call.begin;
-    end = if is_answered call then NEVER else call.end;
+    end = if is_completed call then NEVER else call.end;
     op = call.op;
-    reply = None;
+    reply = call.reply;
   }
 
   -- a call as it stood at a moment. A call that had ended by then is kept as it is; a call that had

@@ -3,7 +3,7 @@ use Rattle.std.specs.Prelude.{◌≡◌, Bool, true, false, List, ◌++◌, IsPe
 use Rattle.judge_levels.specs.declared.level.Level.{Level}
 use Rattle.judge_levels.specs.declared.level.Level.TheVariants as level
 use Rattle.judge_object.specs.Rules.{Rules}
-use Rattle.judge_object.specs.Call.{Call, EachCall, is_answered}
+use Rattle.judge_object.specs.Call.{Call, EachCall, is_completed}
 use Rattle.judge_object.specs.Linear.{GiveReplies}
 use Rattle.judge_object.specs.Orders.{IsOrderOf, IsLinearizable}
 
@@ -12,7 +12,7 @@ module _ {O : Type 0} where
   pub record IsSelectionOf (calls order : List (Call O)) : Type 0 where
     pub left : List (Call O)
     pub all : IsPermutation calls (order ++ left)
-    pub never : EachCall (λ call. is_answered call ≡ false) left
+    pub never : EachCall (λ call. is_completed call ≡ false) left
 
 module _ {S O R : Type 0} (X : Rules S O R) where
   -- sequential consistency (Lamport, IEEE Transactions on Computers 1979): in some order of the

@@ -4,7 +4,7 @@ use Rattle.judge_levels.specs.declared.level.Level.{Level}
 use Rattle.judge_levels.specs.declared.level.Level.TheVariants as level
 use Rattle.judge_object.specs.declared.line.Line.{Line}
 use Rattle.judge_object.specs.Rules.{given_text}
-use Rattle.judge_object.specs.Call.{Call, is_answered}
+use Rattle.judge_object.specs.Call.{Call, is_completed}
 use Rattle.judge_object.specs.Orders.{of_client}
 
 module _ {O : Type 0} where
@@ -13,7 +13,7 @@ module _ {O : Type 0} where
   untimed_as client call = record {
     client = client;
     begin = 0;
-    end = if is_answered call then 0 else call.end;
+    end = if is_completed call then 0 else call.end;
     op = call.op;
     reply = call.reply;
   }
@@ -45,7 +45,7 @@ module _ {O : Type 0} where
   OnlyLastIsPending [] = ⊤
   OnlyLastIsPending (call ∷ []) = ⊤
   OnlyLastIsPending (call ∷ (next ∷ calls)) =
-      (is_answered call ≡ true) × OnlyLastIsPending (next ∷ calls)
+      (is_completed call ≡ true) × OnlyLastIsPending (next ∷ calls)
 
   -- a pending call is its client's last call
   abbrev pub PendingAreLast : List (Call O) → Type 0

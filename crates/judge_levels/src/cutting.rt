@@ -9,17 +9,14 @@ ghost use Rattle.judge_levels.specs.Cut.{cut, cut_call, line_cut, numbered, runn
 use judge_object::{Line, NEVER};
 use std::alloc::{AllocError, Global};
 
-/// Returns the line of a call that is running: without reply and end.
+/// Returns the line of a call that is running: without end. A reply is kept: then the call gave
+/// this reply, or never took effect.
 fn running_line<O: Drop>(line: Line<O>) -> Line<O>
     ensures number { result.number ≡ line.number }
     ensures text { result.text ≡ line.text }
     ensures call { call_of result ≡ running (call_of line) }
 {
-    let end = if line.reply.is_some() {
-        NEVER
-    } else {
-        line.end
-    };
+    let end = if line.end < NEVER { NEVER } else { line.end };
     Line {
         number: line.number,
         text: line.text,
@@ -27,14 +24,13 @@ fn running_line<O: Drop>(line: Line<O>) -> Line<O>
         begin: line.begin,
         end,
         op: line.op,
-        reply: None,
+        reply: line.reply,
         soonest: line.soonest,
     }
 }
 
 /// Returns the call of a line as it stood at a moment: the line as it is if the call had ended by
-/// then, the line without reply and end if the call was running, and `None` if the call had not
-/// begun.
+/// then, the line without end if the call was running, and `None` if the call had not begun.
 pub fn cut_line<O: Drop>(moment: u64, line: Line<O>) -> Option<Line<O>>
     ensures { option_map numbered result ≡ line_cut moment line }
 {

@@ -4,7 +4,7 @@ ghost use Rattle.std.specs.Prelude.{◌≡◌, IfSome};
 ghost use Rattle.judge_levels.specs.Relaxed.{client_at, IsRelaxed};
 
 use crate::level::Level;
-use judge_object::Line;
+use judge_object::{Line, NEVER};
 
 /// Returns the client of a call at a level: a client of its own, numbered as its line, if the level
 /// does not keep the order of each client's calls. Returns `None` if the number is too large.
@@ -28,7 +28,7 @@ pub fn relaxed_line<O: Drop>(level: Level, line: Line<O>) -> Option<Line<O>>
         return Some(line);
     }
     line.begin = 0;
-    if line.reply.is_some() {
+    if line.end < NEVER {
         line.end = 0;
     }
     Some(line)

@@ -50,7 +50,7 @@ pub as_given : (lines sorted : List (Line Task)) → AreKeptLines lines sorted �
 as_given lines sorted k = record { relaxed = lines; texts = refl; calls = refl; are_kept = k }
 
 pub held_last : (history : History) → IsHeld history → PendingAreLast (calls_of history.lines.items)
-held_last history held = pending_last (calls_of history.lines.items) held.turn held.timed held.never
+held_last history held = pending_last (calls_of history.lines.items) held.turn held.timed
 
 pub given_whole : (history : History) (calls : Calls Task) → IsHeld history →
     (InTurn (calls_of history.lines.items) →

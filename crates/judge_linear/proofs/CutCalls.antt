@@ -12,7 +12,7 @@ use Rattle.vac_model.specs.declared.tasks.Task.{Task}
 use Rattle.vac_model.specs.State.{State, empty_state}
 use Rattle.judge_object.specs.declared.span.TheConstants.{NEVER}
 use Rattle.judge_object.specs.declared.line.Line.{Line}
-use Rattle.judge_object.specs.Call.{Call, IsBehind, EachCall, is_answered}
+use Rattle.judge_object.specs.Call.{Call, IsBehind, EachCall, is_completed}
 use Rattle.judge_object.specs.Orders.{IsMerge}
 use Rattle.judge_levels.specs.Cut.{running, cut_call, cut, line_cut}
 use Rattle.judge_levels.proofs.Cuts.{at_moment}
@@ -111,7 +111,7 @@ takes_time : (moment : ℕ) (x d : Call Task) → moment < NEVER → Stood momen
 takes_time moment x d n (inl h) t = subst TakesTime h.1 t
 takes_time moment x d n (inr h) t =
     let begun = h.1 in
-    let late = running_late (is_answered x) x.end moment h.0 n in
+    let late = running_late (is_completed x) x.end moment h.0 n in
     let time : TakesTime (running x) = omega (arith, begun, late) in
     subst TakesTime h.2 time
 
@@ -138,10 +138,10 @@ timed_last moment last n l x d s p = record {
   ends = ends s;
 }
   where
-    ends : Stood moment x d → is_answered d ≡ false → last ≤ d.end
-    ends (inl h) e = subst (λ (c : Call Task). is_answered c ≡ false → last ≤ c.end) h.1 p.0.ends e
+    ends : Stood moment x d → is_completed d ≡ false → last ≤ d.end
+    ends (inl h) e = subst (λ (c : Call Task). is_completed c ≡ false → last ≤ c.end) h.1 p.0.ends e
     ends (inr h) e =
-        let late = running_late (is_answered x) x.end moment h.0 n in
+        let late = running_late (is_completed x) x.end moment h.0 n in
         let by : last ≤ (running x).end = omega (arith, l, late) in
         subst (λ (c : Call Task). last ≤ c.end) h.2 by
 
@@ -153,12 +153,12 @@ timed_moment moment last n l x d s p = record {
   ends = ends s;
 }
   where
-    ends : Stood moment x d → is_answered d ≡ false → moment ≤ d.end
+    ends : Stood moment x d → is_completed d ≡ false → moment ≤ d.end
     ends (inl h) e =
-        let was = subst (λ (c : Call Task). is_answered c ≡ false → last ≤ c.end) h.1 p.0.ends e in
+        let was = subst (λ (c : Call Task). is_completed c ≡ false → last ≤ c.end) h.1 p.0.ends e in
         omega (arith, l, was)
     ends (inr h) e =
-        let late = running_late (is_answered x) x.end moment h.0 n in
+        let late = running_late (is_completed x) x.end moment h.0 n in
         let by : moment ≤ (running x).end = omega (arith, late) in
         subst (λ (c : Call Task). moment ≤ c.end) h.2 by
 

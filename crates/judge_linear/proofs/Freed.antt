@@ -3,16 +3,18 @@ use Rattle.std.proofs.Common.{◌≡◌, ◌≢◌, ℕ, ◌+◌, ◌-◌, ◌^�
 use Rattle.std.proofs.Common.{◌++◌}
 use Rattle.std.proofs.Common.{Option, Some, None, is_some, nat_lt, length, map, get_or, refl, sym, ap, ◌∙◌, subst, inl}
 use Rattle.std.proofs.Common.{inr, arith}
-use Rattle.std.specs.Prelude.{All, IsPermutation, take}
+use Rattle.std.proofs.Common.{◌||◌}
+use Rattle.std.specs.Prelude.{All, IsPermutation, take, nat_le}
 use Rattle.std.specs.Global.{Vec}
 use Rattle.std.proofs.lemmas.Bool.Decides.{nat_tests}
 use Rattle.std.proofs.lemmas.List.{length-map, take_more}
 use Rattle.std.proofs.lemmas.List.Elements.{All-cons, All-head, All-tail, All-nil}
 use Rattle.std.proofs.lemmas.List.Sorted.{IsPermutation-map, All-permutation}
 use Rattle.vac_model.specs.declared.tasks.Task.{Task}
+use Rattle.vac_model.proofs.Kept.{lt_false}
 use Rattle.judge_object.specs.declared.span.TheConstants.{NEVER}
 use Rattle.judge_object.specs.declared.line.Line.{Line}
-use Rattle.judge_object.specs.Call.{Call, IsBehind, EachCall, is_answered}
+use Rattle.judge_object.specs.Call.{Call, IsBehind, EachCall, is_completed}
 use Rattle.judge_object.specs.Orders.{of_client, IsMerge}
 use Rattle.judge_levels.specs.declared.level.Level.{Level}
 use Rattle.judge_levels.specs.declared.level.Level.TheVariants as level
@@ -21,40 +23,39 @@ use Rattle.judge_levels.specs.Relaxed.{PendingAreLast, IsRelaxed}
 use Rattle.judge_levels.proofs.Merges.{test, AreApart, moved_apart, moved_merges, only_one}
 use Rattle.judge_levels.proofs.Times.{IsUntimed, last_rest}
 use Rattle.judge_levels.proofs.Levels.{alone_apart, untimed_is, clients_map, merge_map, only_map}
+use Rattle.judge_levels.proofs.Levels.{same_completed}
 use Rattle.judge_reservations.specs.Reserving.{reserving}
 use Rattle.judge_search.specs.Calls.{call_of, calls_of, no_call, soonest_of}
 use Rattle.judge_search.specs.Sorting.{AreSortOf}
 use Rattle.judge_search.specs.Walk.{InTurn, IsTimed, IsWhole}
 use Rattle.judge_search.specs.Walking.{AreDistinct}
 use Rattle.judge_search.proofs.Clients.{each_order}
-use Rattle.judge_linear.specs.Reading.{EndsNever, AreNumbered, IsLineAt, AreKeptLines, call_at, numbers_of, texts_of}
+use Rattle.judge_linear.specs.Reading.{AreNumbered, IsLineAt, AreKeptLines, call_at, numbers_of, texts_of}
 use Rattle.judge_linear.specs.Relaxed.{IsCopy, IsRelaxedLine, AreRelaxedLines}
 use Rattle.judge_linear.proofs.Kept.{at_soonest, numbers_soonest, distinct_sorted}
 
 pub untimed_end : (line : Line Task) →
-    nat_lt (cond {A = ℕ} (is_answered (call_of line)) 0 line.end) NEVER ≡ is_some line.reply
-untimed_end line = go line.reply refl line.ended
+    (is_some line.reply || nat_le NEVER (cond {A = ℕ} (is_completed (call_of line)) 0 line.end)) ≡ true
+untimed_end line = go (is_some line.reply) (nat_lt line.end NEVER) refl line.ended
   where
-    early : nat_lt 0 NEVER ≡ true
-    early = grind (arith, nat_tests)
-
-    go : (r : Option (Vec ℕ)) → line.reply ≡ r → nat_lt line.end NEVER ≡ is_some line.reply →
-        nat_lt (cond {A = ℕ} (is_answered (call_of line)) 0 line.end) NEVER ≡ is_some line.reply
-    go (Some text) e h = rw e early
-    go None e h = rw e (h ∙ ap (λ (o : Option (Vec ℕ)). is_some o) e)
+    go : (some completed : Bool) → nat_lt line.end NEVER ≡ completed → (some || nat_le NEVER line.end) ≡ true →
+        (some || nat_le NEVER (cond {A = ℕ} completed 0 line.end)) ≡ true
+    go true completed e h = refl
+    go false true e h = absurd (let wrong : false ≡ true = grind (arith, nat_tests) in cc)
+    go false false e h = h
 
 -- a line with the times and the client that the level leaves
 abbrev pub freed : Level → Line Task → Line Task
 freed level.Linearizable line = line
 freed level.Sequential line = record line {
   begin = 0;
-  end = cond {A = ℕ} (is_answered (call_of line)) 0 line.end;
+  end = cond {A = ℕ} (is_completed (call_of line)) 0 line.end;
   ended = untimed_end line;
 }
 freed level.Serializable line = record line {
   client = line.number;
   begin = 0;
-  end = cond {A = ℕ} (is_answered (call_of line)) 0 line.end;
+  end = cond {A = ℕ} (is_completed (call_of line)) 0 line.end;
   ended = untimed_end line;
 }
 
@@ -249,7 +250,7 @@ each_behind : (x : Call Task) (cs : Calls) → x.end ≡ 0 → EachCall (λ d. I
 each_behind x [] e = tt
 each_behind x (c ∷ cs) e = ((λ s. omega (arith, e)), each_behind x cs e)
 
-no_more : (x : Call Task) (cs : Calls) → is_answered x ≡ false → OnlyLastIsPending (x ∷ cs) → cs ≡ []
+no_more : (x : Call Task) (cs : Calls) → is_completed x ≡ false → OnlyLastIsPending (x ∷ cs) → cs ≡ []
 no_more x [] e h = refl
 no_more x (c ∷ cs) e h = absurd (differ (sym h.0 ∙ e))
   where
@@ -266,9 +267,9 @@ own_first x cs h =
 
 behind : (x : Call Task) (cs : Calls) → IsUntimed x → OnlyLastIsPending (of_client x.client (x ∷ cs)) →
     EachCall (λ d. IsBehind d x) cs
-behind x cs u h = go (is_answered x) refl
+behind x cs u h = go (is_completed x) refl
   where
-    go : (b : Bool) → is_answered x ≡ b → EachCall (λ d. IsBehind d x) cs
+    go : (b : Bool) → is_completed x ≡ b → EachCall (λ d. IsBehind d x) cs
     go true e = each_behind x cs (u.end e)
     go false e =
         none_client (λ d. x.end ≤ d.begin) x.client cs (no_more x (of_client x.client cs) e (own_first x cs h))
@@ -319,7 +320,10 @@ late true last e h f = cc
 late false last e h f = h f
 
 timed_as : (last n : ℕ) (c : Call Task) → IsTimed last c → IsTimed last (untimed_as n c)
-timed_as last n c t = record { begins = omega arith; ends = late (is_answered c) last c.end t.ends }
+timed_as last n c t = record {
+  begins = omega arith;
+  ends = λ f. late (is_completed c) last c.end t.ends (sym (same_completed c.end) ∙ f);
+}
 
 timed_freed : (kept : Level) (last : ℕ) (lines : List (Line Task)) → EachCall (IsTimed last) (calls_of lines) →
     EachCall (IsTimed last) (calls_of (freed_lines kept lines))
@@ -344,38 +348,37 @@ whole_relaxed kept lines sorted relaxed last below n s m pending h timed = recor
 
 -- ---- a pending call is its client's last
 
-first_late : (c d : Call Task) → EndsNever c → IsTimed (2 ^ 64 - 1) d → IsBehind d c → c.client ≡ d.client →
-    is_answered c ≡ true
-first_late c d never t h s = go (is_answered c) refl
+first_late : (c d : Call Task) → IsTimed (2 ^ 64 - 1) d → IsBehind d c → c.client ≡ d.client →
+    is_completed c ≡ true
+first_late c d t h s = go (is_completed c) refl
   where
-    go : (b : Bool) → is_answered c ≡ b → b ≡ true
+    go : (b : Bool) → is_completed c ≡ b → b ≡ true
     go true e = refl
     go false e =
-        let end : NEVER ≤ c.end = never e in
+        let end : NEVER ≤ c.end = lt_false c.end NEVER e in
         let begin = t.begins in
         let order = h s in absurd (omega arith)
 
-head_late : (c : Call Task) (k : ℕ) (cs rest : Calls) → of_client k cs ≡ rest → c.client ≡ k → EndsNever c →
+head_late : (c : Call Task) (k : ℕ) (cs rest : Calls) → of_client k cs ≡ rest → c.client ≡ k →
     EachCall (IsTimed (2 ^ 64 - 1)) cs → EachCall (λ d. IsBehind d c) cs → OnlyLastIsPending rest →
     OnlyLastIsPending (c ∷ rest)
-head_late c k cs [] e s never t h o = tt
-head_late c k [] (d ∷ ds) e s never t h o = cc
-head_late c k (x ∷ cs) (d ∷ ds) e s never t h o =
+head_late c k cs [] e s t h o = tt
+head_late c k [] (d ∷ ds) e s t h o = cc
+head_late c k (x ∷ cs) (d ∷ ds) e s t h o =
     elim (test x.client k) [
       | inl f ↦
           let same : x ∷ of_client k cs ≡ d ∷ ds = rw f.0 at e in
-          (first_late c x never t.0 h.0 (s ∙ sym f.1), o)
-      | inr f ↦ head_late c k cs (d ∷ ds) (rw f.0 at e) s never t.1 h.1 o
+          (first_late c x t.0 h.0 (s ∙ sym f.1), o)
+      | inr f ↦ head_late c k cs (d ∷ ds) (rw f.0 at e) s t.1 h.1 o
     ]
 
-pub pending_last : (cs : Calls) → InTurn cs → EachCall (IsTimed (2 ^ 64 - 1)) cs → EachCall EndsNever cs →
-    PendingAreLast cs
-pending_last [] h t never k = tt
-pending_last (c ∷ cs) h t never k =
+pub pending_last : (cs : Calls) → InTurn cs → EachCall (IsTimed (2 ^ 64 - 1)) cs → PendingAreLast cs
+pending_last [] h t k = tt
+pending_last (c ∷ cs) h t k =
     elim (test c.client k) [
-      | inl f ↦ rw f.0 (head_late c k cs (of_client k cs) refl f.1 never.0 t.1 h.1
-          (pending_last cs h.2 t.1 never.1 k))
-      | inr f ↦ rw f.0 (pending_last cs h.2 t.1 never.1 k)
+      | inl f ↦ rw f.0 (head_late c k cs (of_client k cs) refl f.1 t.1 h.1
+          (pending_last cs h.2 t.1 k))
+      | inr f ↦ rw f.0 (pending_last cs h.2 t.1 k)
     ]
 
 -- ---- lines that are relaxed one by one

@@ -1,8 +1,7 @@
 -- The part of a history: its calls take their clients' turns, and are parts of the lines with their numbers.
 use Rattle.std.proofs.Common.{◌≡◌, ℕ, ◌≤◌, suc, zero, List, [], ◌∷◌, map, refl, sym, ap, ◌∙◌, subst, arith}
-use Rattle.std.proofs.Common.{Option, Some, None, is_some}
+use Rattle.std.proofs.Common.{Option, Some, None}
 use Rattle.std.specs.Prelude.{All, slice_get}
-use Rattle.std.specs.Global.{Vec}
 use Rattle.std.specs.List.{filter_map, cons_option}
 use Rattle.std.specs.Option.{option_map, option_and_then}
 use Rattle.std.proofs.lemmas.List.{length-map}
@@ -10,7 +9,7 @@ use Rattle.std.proofs.lemmas.List.Elements.{All-cons, All-head, All-tail, All-ni
 use Rattle.std.proofs.lemmas.List.Sorted.{All-permutation}
 use Rattle.vac_model.specs.declared.tasks.Task.{Task}
 use Rattle.judge_object.specs.declared.line.Line.{Line}
-use Rattle.judge_object.specs.Call.{Call, IsBehind, EachCall, is_answered}
+use Rattle.judge_object.specs.Call.{Call, IsBehind, EachCall, is_completed}
 use Rattle.judge_part.specs.declared.scope.Scope.{Scope}
 use Rattle.judge_part.specs.Tasks.{Answered}
 use Rattle.judge_part.specs.Completed.{task_part}
@@ -25,7 +24,6 @@ use Rattle.judge_linear.specs.Found.{IsGivenAt, AreGivenAt, ArePartsThen, IsEndO
 use Rattle.judge_linear.specs.Moments.{part_then, IsEndIn, IsWrongPart}
 use Rattle.judge_levels.specs.Cut.{cut_call, line_cut}
 use Rattle.judge_levels.proofs.Cuts.{cut_linearizable}
-use Rattle.judge_object.specs.Rules.{given_text}
 use Rattle.judge_linear.specs.Judged.{HasNoOrderOf}
 use Rattle.judge_linear.specs.declared.part.IllegalPart.{IllegalPart}
 use Rattle.std.specs.Prelude.{true}
@@ -48,27 +46,26 @@ record Stands (c d : Call Task) : Type 0 where
   pub client : d.client ≡ c.client
   pub begin : d.begin ≡ c.begin
   pub end : d.end ≡ c.end
-  pub answered : is_answered d ≡ is_answered c
+  pub completed : is_completed d ≡ is_completed c
 
-completed : (c d : Call Task) (text : List ℕ) (o : Option Answered) → c.reply ≡ Some text →
-    option_map (with_answered c) o ≡ Some d → Stands c d
-completed c d text None r e = absurd (none_some d e)
-completed c d text (Some a) r e =
+answered : (c d : Call Task) (o : Option Answered) → option_map (with_answered c) o ≡ Some d → Stands c d
+answered c d None e = absurd (none_some d e)
+answered c d (Some a) e =
     subst (Stands c) (some_same (with_answered c a) d e)
-    (record { client = refl; begin = refl; end = refl; answered = sym (ap (λ (x : Option (List ℕ)). is_some x) r) })
+    (record { client = refl; begin = refl; end = refl; completed = refl })
 
-pending : (c d : Call Task) (o : Option Task) → c.reply ≡ None → option_map (with_pending c) o ≡ Some d → Stands c d
-pending c d None r e = absurd (none_some d e)
-pending c d (Some t) r e =
+pending : (c d : Call Task) (o : Option Task) → option_map (with_pending c) o ≡ Some d → Stands c d
+pending c d None e = absurd (none_some d e)
+pending c d (Some t) e =
     subst (Stands c) (some_same (with_pending c t) d e)
-    (record { client = refl; begin = refl; end = refl; answered = sym (ap (λ (x : Option (List ℕ)). is_some x) r) })
+    (record { client = refl; begin = refl; end = refl; completed = refl })
 
 stands : (scope : Scope) (c d : Call Task) → part_of_call scope c ≡ Some d → Stands c d
-stands scope c d e = go c.reply refl e
+stands scope c d e = go c.reply e
   where
-    go : (given : Option (List ℕ)) → c.reply ≡ given → replied_part scope c given ≡ Some d → Stands c d
-    go None r e = pending c d (pending_part scope c.op) r e
-    go (Some text) r e = completed c d text (task_part scope c.op text) r e
+    go : (given : Option (List ℕ)) → replied_part scope c given ≡ Some d → Stands c d
+    go None e = pending c d (pending_part scope c.op) e
+    go (Some text) e = answered c d (task_part scope c.op text) e
 
 -- what holds of each call holds of each part
 each_part : (scope : Scope) (P Q : Call Task → Type 0) → ((c d : Call Task) → Stands c d → P c → Q d) →
@@ -101,7 +98,7 @@ turn_part scope (c ∷ cs) h = go (part_of_call scope c) refl (turn_part scope c
 timed : (last : ℕ) (c d : Call Task) → Stands c d → IsTimed last c → IsTimed last d
 timed last c d s t = record {
   begins = (let was = t.begins in omega (arith, was, s.begin));
-  ends = λ e. let was = t.ends (sym s.answered ∙ e) in omega (arith, was, s.end);
+  ends = λ e. let was = t.ends (sym s.completed ∙ e) in omega (arith, was, s.end);
 }
 
 -- the parts of calls are whole if the calls are
@@ -253,11 +250,6 @@ call_at_place [] i x e = absurd (none_some x e)
 call_at_place (y ∷ ys) zero x e = ap (λ (l : Line Task). Some (call_of l)) (some_same y x e)
 call_at_place (y ∷ ys) (suc i) x e = call_at_place ys i x e
 
--- the text of a reply, if there is a reply
-given_some : (o : Option (Vec ℕ)) → is_some (given_text o) ≡ is_some o
-given_some None = refl
-given_some (Some text) = refl
-
 pub end_of_line : (lines : List (Line Task)) (number moment : ℕ) → IsEndIn lines number moment →
     IsEndOf (calls_of lines) (numbers_of lines) number moment
 end_of_line lines number moment h =
@@ -266,6 +258,6 @@ end_of_line lines number moment h =
       number_at = number_at lines h.place line h.ends.at ∙ ap Some h.number_is;
       call = call_of line;
       call_is = call_at_place lines h.place line h.ends.at;
-      completed = given_some line.reply ∙ h.ends.completed;
+      completed = h.ends.completed;
       end = h.ends.end;
     }

@@ -1,6 +1,6 @@
 -- What the last end of each client says of a further call.
 use Rattle.std.proofs.Common.{◌≡◌, ◌≢◌, ℕ, ◌+◌, ◌==◌, ◌&&◌, ◌||◌, ◌<◌, ◌≤◌, Bool, true, false, not, List, []}
-use Rattle.std.proofs.Common.{◌∷◌, ◌++◌, length, Option, Some, None, is_some, refl, sym, ap, ◌∙◌, subst, inl, inr}
+use Rattle.std.proofs.Common.{◌∷◌, ◌++◌, length, Option, Some, None, refl, sym, ap, ◌∙◌, subst, inl, inr}
 use Rattle.std.proofs.Common.{arith, nat_lt, nat_le}
 use Rattle.std.specs.List.{list_any}
 use Rattle.std.specs.Ordering.{nat_cmp, eq_by_cmp}
@@ -9,9 +9,8 @@ use Rattle.std.proofs.lemmas.Cmp.{nat_cmp_total}
 use Rattle.std.proofs.lemmas.Bool.Decides.{nat_tests}
 use Rattle.std.proofs.lemmas.List.Folds.{list_any-append}
 use Rattle.judge_calls.specs.Call.{Call}
-use Rattle.judge_calls.specs.declared.call.CallLine.{CallLine}
-use Rattle.judge_calls.specs.declared.call.Answer.{Answer}
-use Rattle.judge_calls.specs.Parts.{shown_call, shown_end, shown_reply}
+use Rattle.judge_calls.specs.declared.call_line.CallLine.{CallLine}
+use Rattle.judge_calls.specs.Parts.{shown_call, shown_end}
 use Rattle.judge_calls.specs.Order.{call_breaks_client}
 use Rattle.judge_object.specs.declared.span.TheConstants.{NEVER}
 use Rattle.judge_object.specs.Call.{IsBehind, EachCall}
@@ -19,12 +18,13 @@ use Rattle.judge_object.specs.declared.line.Line.{Line}
 use Rattle.judge_linear.specs.declared.history.History.{History}
 use Rattle.judge_search.specs.Walk.{InTurn, IsTimed}
 use Rattle.judge_search.specs.Calls.{call_of, calls_of}
-use Rattle.judge_linear.specs.Reading.{EndsNever, calls_overlap, AreNumbered, began_before, KeepsEnds, IsHeld, IsLineOf}
+use Rattle.judge_linear.specs.Reading.{calls_overlap, AreNumbered, began_before, KeepsEnds, IsHeld, IsLineOf}
 use Rattle.judge_linear.specs.Reading.{Took}
 use Rattle.judge_linear.specs.Reading.{texts_of}
 use Rattle.std.specs.Prelude.{◌-◌, ◌^◌}
 use Rattle.std.proofs.lemmas.List.{map-append}
 use Rattle.judge_search.proofs.Each.{test}
+use Rattle.vac_model.proofs.Kept.{lt_false}
 use Rattle.vac_model.specs.declared.tasks.Task.{Task}
 
 both_false : (a b : Bool) → (a || b) ≡ false → (a ≡ false) × (b ≡ false)
@@ -168,8 +168,8 @@ pub took : (before after : History) (text : List ℕ) (c : Call) (l : Line Task)
     after.ends ≡ insert before.ends c.client c.end
     → n ≡ length before.lines.items + 1 → IsLineOf n text c l → after.lines.items ≡ before.lines.items ++ l ∷ [] →
     call_breaks_client (calls_of before.lines.items) c ≡ false
-    → IsTimed (2 ^ 64 - 1) c → EndsNever c → Took before after text c
-took before after text c l n h e m i p f t never =
+    → IsTimed (2 ^ 64 - 1) c → Took before after text c
+took before after text c l n h e m i p f t =
     let calls : calls_of after.lines.items ≡ calls_of before.lines.items ++ c ∷ [] =
     ap calls_of p ∙ map-append call_of before.lines.items (l ∷ []) ∙
     ap (λ d. calls_of before.lines.items ++ d ∷ []) i.call_is in
@@ -182,8 +182,6 @@ took before after text c l n h e m i p f t never =
         turn = subst InTurn (sym calls) (turn_more (calls_of before.lines.items) c h.turn f);
         timed = subst (EachCall (IsTimed (2 ^ 64 - 1))) (sym calls)
             (each_more (IsTimed (2 ^ 64 - 1)) (calls_of before.lines.items) c h.timed t);
-        never = subst (EachCall EndsNever) (sym calls)
-            (each_more EndsNever (calls_of before.lines.items) c h.never never);
         numbered = subst (AreNumbered 1) (sym p) (numbered_more 1 before.lines.items l h.numbered (let own =
             i.number_is in omega arith));
       };
@@ -194,19 +192,10 @@ took before after text c l n h e m i p f t never =
 
 -- a call whose begin is a reading of the clock is timed
 pub timed_of : (c : CallLine) → c.begin < 2 ^ 64 → IsTimed (2 ^ 64 - 1) (shown_call c)
-timed_of c l = record { begins = (let b : c.begin ≤ 2 ^ 64 - 1 = omega arith in b); ends = never c.answer }
-  where
-    never : (a : Option Answer) → is_some (shown_reply a) ≡ false → 2 ^ 64 - 1 ≤ shown_end a
-    never None e = omega arith
-    never (Some a) e = cc
-
--- a pending call ends never
-pub never_of : (c : CallLine) → EndsNever (shown_call c)
-never_of c = never c.answer
-  where
-    never : (a : Option Answer) → is_some (shown_reply a) ≡ false → NEVER ≤ shown_end a
-    never None e = omega arith
-    never (Some a) e = cc
+timed_of c l = record {
+  begins = (let b : c.begin ≤ 2 ^ 64 - 1 = omega arith in b);
+  ends = λ e. let late = lt_false (shown_end c.end) NEVER e in omega (arith, late);
+}
 
 pub not_true : (b : Bool) → not b ≡ true → b ≡ false
 not_true true h = cc

@@ -15,7 +15,7 @@ use Rattle.judge_calls.specs.Verdict.{verdict_text}
 use Rattle.judge_calls.specs.Wrongs.{CallsTakeTurns}
 use Rattle.judge_object.proofs.Order.{passes}
 use Rattle.judge_object.proofs.Tests.{turn_test, time_test, both_false, false_both}
-use Rattle.judge_object.specs.Call.{IsBehind, is_answered}
+use Rattle.judge_object.specs.Call.{IsBehind, is_completed}
 use Rattle.judge_object.specs.Orders.{of_client}
 use Rattle.judge_search.specs.Walk.{InTurn}
 use Rattle.judge_search.proofs.Each.{Each, test, self}
@@ -365,11 +365,11 @@ out_of_turn_is_left_out n line bytes first calls order listed o l =
         Cut (of_client k order) (of_client k first.before) first.call (of_client k after) (of_client k o.left) →
         LeavesOutFrom calls order k (length first.before)
     go after e (short less more f) = record {
-      pending = subst (Each (λ c. is_answered c ≡ false))
+      pending = subst (Each (λ c. is_completed c ≡ false))
           (sym (client_first first.call after) ∙ ap (of_client k) (sym (drop-append_seam first.before
           (first.call ∷ after)) ∙ ap (drop (length first.before)) (sym e)))
-          (each_behind (λ c. is_answered c ≡ false) more (first.call ∷ of_client k after)
-          (subst (Each (λ c. is_answered c ≡ false)) f (each_client (λ c. is_answered c ≡ false) k o.left o.never)));
+          (each_behind (λ c. is_completed c ≡ false) more (first.call ∷ of_client k after)
+          (subst (Each (λ c. is_completed c ≡ false)) f (each_client (λ c. is_completed c ≡ false) k o.left o.never)));
       none = subst (λ cs. length (of_client k order) ≤ length (of_client k cs))
           (sym (take_front first.before (first.call ∷ after)) ∙ ap (take (length first.before)) (sym e)) less;
     }
@@ -388,7 +388,8 @@ pub out_of_turn_means_none : OutOfTurnMeansNone
 out_of_turn_means_none n line bytes first answered calls listed some =
     let left = out_of_turn_is_left_out n line bytes first calls some.order listed some.orders some.linearization in
     let parts = split calls first.before first.call first.rest (sym listed ∙ first.listed) in
-    let pending : Each (λ c. is_answered c ≡ false) (first.call ∷ of_client first.call.client parts.0) =
-    subst (Each (λ c. is_answered c ≡ false)) (ap (of_client first.call.client) (ap (drop (length first.before)) parts.1
+    let pending : Each (λ c. is_completed c ≡ false) (first.call ∷ of_client first.call.client parts.0) =
+    subst (Each (λ c. is_completed c ≡ false)) (ap (of_client first.call.client)
+    (ap (drop (length first.before)) parts.1
     ∙ drop-append_seam first.before (first.call ∷ parts.0)) ∙ client_first first.call parts.0) left.pending in
     true_false (sym answered ∙ pending.0)

@@ -31,7 +31,7 @@ use Rattle.judge_search.specs.Walking.{AreDistinct}
 use Rattle.judge_search.specs.Stuck.{AreStuck}
 use Rattle.judge_linear.specs.Reading.{first_wrong, call_at}
 use Rattle.judge_linear.specs.Moments.{part_then}
-use Rattle.judge_object.specs.Call.{is_answered}
+use Rattle.judge_object.specs.Call.{is_completed}
 use Rattle.judge_object.specs.declared.span.TheConstants.{NEVER}
 
 -- the result for a history at a level: a wrong line; the numbers of the lines in an order; no
@@ -145,7 +145,7 @@ pub record IsEndOf (calls : List Call) (numbers : List ℕ) (number moment : ℕ
   pub number_at : slice_get numbers place ≡ Some number
   pub call : Call
   pub call_is : slice_get calls place ≡ Some call
-  pub completed : is_answered call ≡ true
+  pub completed : is_completed call ≡ true
   pub end : call.end ≡ moment
 
 -- in a state after as many completed calls as can be placed of these, for a system of the greatest

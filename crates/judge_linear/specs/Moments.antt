@@ -1,5 +1,5 @@
 -- The calls of a part of a history as they stood at a moment.
-use Rattle.std.specs.Prelude.{◌≡◌, ◌<◌, ◌≤◌, ℕ, Bool, true, Option, Some, is_some, List, length, map}
+use Rattle.std.specs.Prelude.{◌≡◌, ◌<◌, ◌≤◌, ℕ, Bool, true, Option, Some, List, length, map}
 use Rattle.std.specs.Prelude.{slice_get}
 use Rattle.std.specs.List.{filter_map}
 use Rattle.std.specs.Option.{option_and_then}
@@ -16,7 +16,7 @@ use Rattle.judge_part.specs.Histories.{part_of_call}
 use Rattle.judge_part.specs.Lines.{numbered}
 use Rattle.judge_reservations.specs.Reserving.{reserving}
 use Rattle.judge_search.specs.declared.calls.Calls.{Calls}
-use Rattle.judge_search.specs.Calls.{calls_of, rest_of}
+use Rattle.judge_search.specs.Calls.{calls_of, has_ended, rest_of}
 use Rattle.judge_search.specs.Configurations.{start, answered, PlacesAtMost, Deepest}
 use Rattle.judge_search.specs.Sorting.{AreSortOf}
 use Rattle.judge_search.specs.Stuck.{AreStuck}
@@ -39,7 +39,7 @@ pub record AreCutCalls (moment : ℕ) (lines : List (Line Task)) (calls : Calls 
 pub record EndsAt (lines : List (Line Task)) (place moment : ℕ) : Type 0 where
   pub line : Line Task
   pub at : slice_get lines place ≡ Some line
-  pub completed : is_some line.reply ≡ true
+  pub completed : has_ended line ≡ true
   pub end : line.end ≡ moment
 
 -- the call with a number is completed, and ended at a moment

@@ -18,8 +18,7 @@ use Rattle.judge_calls.specs.declared.verdict.Verdict.TheVariants.{Fault, Illega
 use Rattle.judge_calls.specs.declared.verdict.CallViolation.TheVariants.{Client}
 use Rattle.judge_calls.specs.Call.{Call, line_call}
 use Rattle.judge_calls.specs.Order.{call_breaks_client}
-use Rattle.judge_object.specs.declared.span.TheConstants.{NEVER}
-use Rattle.judge_object.specs.Call.{EachCall, is_answered}
+use Rattle.judge_object.specs.Call.{EachCall}
 use Rattle.judge_calls.specs.Laws.{Lists}
 use Rattle.vac_model.specs.declared.tasks.Task.{Task}
 use Rattle.judge_object.specs.Orders.{IsMerge}
@@ -77,16 +76,11 @@ abbrev pub KeepsEnds : FinMap nat_cmp ℕ → List Call → Type 0
 KeepsEnds ends calls = (call : Call) →
     list_any (calls_overlap call) calls ≡ began_before (get ends call.client) call.begin
 
--- a pending call ends later than all times
-abbrev pub EndsNever : Call → Type 0
-EndsNever call = is_answered call ≡ false → NEVER ≤ call.end
-
 -- the calls that were read are in turn for each client, and their lines are numbered from 1
 pub record IsHeld (history : History) : Type 0 where
   pub ends : KeepsEnds history.ends (calls_of history.lines.items)
   pub turn : InTurn (calls_of history.lines.items)
   pub timed : EachCall (IsTimed (2 ^ 64 - 1)) (calls_of history.lines.items)
-  pub never : EachCall EndsNever (calls_of history.lines.items)
   pub numbered : AreNumbered 1 history.lines.items
 
 -- the numbers of the lines, in their order

@@ -13,7 +13,7 @@ use Rattle.judge_calls.specs.Call.{Call, line_call}
 use Rattle.judge_calls.specs.Verdict.{verdict_text}
 use Rattle.judge_calls.specs.Laws.{Lists, IsLinearization}
 use Rattle.judge_calls.specs.Wrongs.{CallsTakeTurns}
-use Rattle.judge_object.specs.Call.{EachCall, is_answered}
+use Rattle.judge_object.specs.Call.{EachCall, is_completed}
 use Rattle.judge_object.specs.Orders.{of_client, IsOrderOf, IsLinearizable}
 use Rattle.judge_reservations.specs.Reserving.{reserving}
 use Rattle.judge_levels.specs.declared.level.Level.{Level}
@@ -73,7 +73,7 @@ WrongOrInTurn = (bytes : List ℕ) →
 
 -- from a position on no call of a client is completed, and an order has none of these calls
 pub record LeavesOutFrom (calls order : List Call) (client place : ℕ) : Type 0 where
-  pub pending : EachCall (λ call. is_answered call ≡ false) (of_client client (drop place calls))
+  pub pending : EachCall (λ call. is_completed call ≡ false) (of_client client (drop place calls))
   pub none : length (of_client client order) ≤ length (of_client client (take place calls))
 
 -- an order of the calls that is a linearization leaves out the call that is not in turn, and all
@@ -87,5 +87,5 @@ OutOfTurnIsLeftOut = (n line : ℕ) (bytes : List ℕ) (first : IsFirstOutOfTurn
 -- so no order of the calls is a linearization if the call that is not in turn is completed
 abbrev pub OutOfTurnMeansNone : Type 0
 OutOfTurnMeansNone = (n line : ℕ) (bytes : List ℕ) (first : IsFirstOutOfTurn bytes line) →
-    is_answered first.call ≡ true → (calls : List Call) → Lists bytes calls →
+    is_completed first.call ≡ true → (calls : List Call) → Lists bytes calls →
     IsLinearizable reserving (empty_state n) calls → ⊥

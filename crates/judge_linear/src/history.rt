@@ -1,15 +1,16 @@
 //! The calls of a history while it is read, each client's in turn.
 
 ghost use Rattle.std.specs.Prelude.{◌≡◌, ◌<◌, ◌^◌, true, [], not, IfOk, MatchBool};
+ghost use Rattle.std.specs.Option.{option_copied};
 ghost use Rattle.vac_model.specs.Ranges.{is_task};
 ghost use Rattle.judge_object.specs.Rules.{given_text};
 ghost use Rattle.judge_calls.specs.Order.{call_breaks_client};
-ghost use Rattle.judge_calls.specs.Parts.{shown_call, shown_end, shown_reply};
+ghost use Rattle.judge_calls.specs.Parts.{shown_call};
 ghost use Rattle.judge_search.specs.Calls.{calls_of};
 ghost use Rattle.judge_linear.specs.Reading.{IsHeld, IsLineOf, Took};
 
-use judge_calls::{Answer, CallLine};
-use judge_object::{Ends, Line, NEVER};
+use judge_calls::CallLine;
+use judge_object::{Ends, Line};
 use judge_reservations::ValidTask;
 use std::alloc::{AllocError, Global};
 
@@ -21,22 +22,12 @@ pub(crate) struct History {
     pub(crate) ends: Ends,
 }
 
-/// Returns the end of a call, [`NEVER`] for a pending call.
-fn end_of(answer: Option<Answer<'_>>) -> u128
-    ensures { result ≡ shown_end answer.entry }
+/// Returns a copy of the text of a reply, or `None` if the reply is not known.
+fn reply_of(alloc: Global, given: Option<&[u8]>) -> Result<Option<Vec<u8>>, AllocError>
+    ensures { IfOk result (λ reply. given_text reply ≡ option_copied given.entry) }
 {
-    match answer {
-        Some(answer) => u128::from(answer.end),
-        None => NEVER,
-    }
-}
-
-/// Returns a copy of the text of the reply, or `None` for a pending call.
-fn reply_of(alloc: Global, answer: Option<Answer<'_>>) -> Result<Option<Vec<u8>>, AllocError>
-    ensures { IfOk result (λ reply. given_text reply ≡ shown_reply answer.entry) }
-{
-    match answer {
-        Some(answer) => Ok(Some(Vec::from_slice(alloc, answer.reply)?)),
+    match given {
+        Some(text) => Ok(Some(Vec::from_slice(alloc, text)?)),
         None => Ok(None),
     }
 }
@@ -53,8 +44,8 @@ fn line_of(
         IsLineOf number text.now (shown_call call.entry) line) }
     ensures begun { IfOk result (λ _. call.entry.begin < 2 ^ 64) }
 {
-    let end = end_of(call.answer);
-    let reply = reply_of(alloc, call.answer)?;
+    let end = call.end_or_never();
+    let reply = reply_of(alloc, call.reply)?;
     Ok(Line {
         number,
         text: Vec::from_slice(alloc, text)?,
@@ -86,7 +77,7 @@ impl History {
             (shown_call call.now)) }
     {
         let begin = u128::from(call.begin);
-        if end_of(call.answer) < begin {
+        if call.end_or_never() < begin {
             return false;
         }
         match self.ends.get(call.client) {
@@ -113,7 +104,7 @@ impl History {
         }
         let number = self.lines.len() as u64 + 1;
         let client = call.client;
-        let end = end_of(call.answer);
+        let end = call.end_or_never();
         let line = line_of(alloc, number, text, call)?;
         self.ends.insert(client, end)?;
         self.lines.push(line)?;

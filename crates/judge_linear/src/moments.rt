@@ -11,7 +11,7 @@ ghost use Rattle.judge_linear.specs.Moments.{HadNoOrderAt, IsWrongPart};
 use crate::part::open;
 use crate::relaxed::copied_line;
 use judge_levels::cut_lines;
-use judge_object::{Line, Watcher};
+use judge_object::{Line, NEVER, Watcher};
 use judge_reservations::ValidTask;
 use judge_search::{Calls, Finding, Stuck, find_linearization, stuck_calls};
 use std::alloc::{AllocError, Global};
@@ -90,11 +90,8 @@ fn end_of(lines: &[Line<ValidTask>], place: usize) -> Option<u64>
     requires { place < length lines.now }
     ensures { IfSome result (EndsAt lines.now place) }
 {
-    let line = &lines[place];
-    match &line.reply {
-        Some(_) => Some(line.end as u64),
-        None => None,
-    }
+    let end = lines[place].end;
+    if end < NEVER { Some(end as u64) } else { None }
 }
 
 /// As [`cut_without_order`], for the moment at which the call at a position ended. Returns `None`
@@ -122,7 +119,7 @@ fn cut_at_end<P: Watcher>(
 fn completed_count(lines: &[Line<ValidTask>]) -> usize
     ensures { result ≤ length lines.now }
 {
-    match lines.iter().position(|line| line.reply.is_none()) {
+    match lines.iter().position(|line| NEVER <= line.end) {
         Some(place) => place,
         None => lines.len(),
     }

@@ -1,17 +1,16 @@
 -- If an order of as many calls as possible does not have all completed calls, some completed call
 -- may come next after that order, and no completed call that may come next gives its reply.
-use Rattle.std.proofs.Common.{◌≡◌, ℕ, ◌<◌, ◌≤◌, ◌==◌, suc, zero, Bool, true, false, cond, is_some, Option, Some}
-use Rattle.std.proofs.Common.{None, List, [], ◌∷◌, ◌++◌, length, get_or, refl, ap, ◌∙◌, inl, inr, arith}
+use Rattle.std.proofs.Common.{◌≡◌, ℕ, ◌<◌, ◌≤◌, ◌==◌, suc, zero, Bool, true, false, cond}
+use Rattle.std.proofs.Common.{List, [], ◌∷◌, ◌++◌, length, get_or, refl, ap, ◌∙◌, inl, inr, arith}
 use Rattle.std.specs.Prelude.{◌⊎◌}
 use Rattle.std.specs.List.{list_any}
-use Rattle.std.specs.Global.{Vec}
 use Rattle.std.proofs.lemmas.Bool.{cases_lt}
-use Rattle.judge_object.specs.Rules.{Rules, given_text}
-use Rattle.judge_object.specs.Call.{Call, is_answered}
+use Rattle.judge_object.specs.Rules.{Rules}
+use Rattle.judge_object.specs.Call.{Call, is_completed}
 use Rattle.judge_object.specs.declared.line.Line.{Line}
 use Rattle.judge_search.specs.declared.calls.Calls.{Calls}
 use Rattle.judge_search.specs.declared.point.Point.{Point}
-use Rattle.judge_search.specs.Calls.{calls_of, are_sorted, rest_of}
+use Rattle.judge_search.specs.Calls.{calls_of, has_ended, are_sorted, rest_of}
 use Rattle.judge_search.specs.Configurations.{Configuration, MayBegin, Goes, start, answered, weight, fits, after_call}
 use Rattle.judge_search.specs.Judging.{HasNoOrder}
 use Rattle.judge_search.specs.Point.{made_of, point_at}
@@ -53,10 +52,6 @@ first_left made (suc count) = go (first_left made count)
       left = f.left;
     })
 
-given : (reply : Option (Vec ℕ)) → is_some (given_text reply) ≡ is_some reply
-given None = refl
-given (Some text) = refl
-
 module _ {O : Type 0} where
   -- the line at a position
   pub line_at : (lines : List (Line O)) (place : ℕ) → place < length lines →
@@ -76,12 +71,12 @@ module _ {S O R : Type 0} (X : Rules S O R) where
   record Comes (rest : List (Call O)) : Type 0 where
     call : Call O
     may : MayBegin rest call
-    completed : is_answered call ≡ true
+    completed : is_completed call ≡ true
 
   -- the first call that is left may come next
   first_comes : (made : ℕ → Bool) (lines : List (Line O)) (line : Line O) → are_sorted lines ≡ true →
       InTurn (calls_of lines) → (f : Left made (length lines)) → line ≡ get_or lines f.first line →
-      is_some line.reply ≡ true → Comes (rest_of made 0 (calls_of lines))
+      has_ended line ≡ true → Comes (rest_of made 0 (calls_of lines))
   first_comes made lines line sorted turn f is some =
       let calls = calls_of lines in
       let call = at X calls f.first in
@@ -98,7 +93,7 @@ module _ {S O R : Type 0} (X : Rules S O R) where
           early = begun_early X made lines f.first line call.begin (sorted_of lines sorted) f.within is f.below f.left
               (omega arith);
         }));
-        completed = ap is_answered here ∙ given line.reply ∙ some;
+        completed = ap is_completed here ∙ some;
       }
 
   -- where completed calls are left, one of them may come next
@@ -113,11 +108,11 @@ module _ {S O R : Type 0} (X : Rules S O R) where
             absurd (omega arith)
         | inr f ↦
             let line = line_at lines f.first f.within in
-            go f line.0 line.1 (is_some line.0.reply) refl
+            go f line.0 line.1 (has_ended line.0) refl
       ]
     where
       go : (f : Left made (length lines)) (line : Line O) → line ≡ get_or lines f.first line → (b : Bool) →
-          is_some line.reply ≡ b → Comes (rest_of made 0 (calls_of lines))
+          has_ended line ≡ b → Comes (rest_of made 0 (calls_of lines))
       go f line is true e = first_comes made lines line sorted turn f is e
       go f line is false e =
           let none : answered (rest_of made 0 (calls_of lines)) ≡ 0 =
@@ -126,7 +121,7 @@ module _ {S O R : Type 0} (X : Rules S O R) where
 
   -- a completed call that may come next where most calls have a position does not give its reply
   none_goes : (s : S) (calls : List (Call O)) (most : ℕ) (point : Configuration S O) →
-      HasNoOrder X s calls most point → (call : Call O) → MayBegin point.rest call → is_answered call ≡ true →
+      HasNoOrder X s calls most point → (call : Call O) → MayBegin point.rest call → is_completed call ≡ true →
       fits X point.state call ≡ false
   none_goes s calls most point h call may completed = go (fits X point.state call) refl
     where

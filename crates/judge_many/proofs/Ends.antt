@@ -1,6 +1,6 @@
 -- What the last end of each client says of a further call.
 use Rattle.std.proofs.Common.{◌≡◌, ◌≢◌, ℕ, ◌-◌, ◌==◌, ◌&&◌, ◌||◌, ◌<◌, ◌≤◌, Bool, true, false, not, List, []}
-use Rattle.std.proofs.Common.{◌∷◌, ◌++◌, length, Option, Some, None, is_some, refl, sym, ap, ◌∙◌, subst, inl, inr}
+use Rattle.std.proofs.Common.{◌∷◌, ◌++◌, length, Option, Some, None, refl, sym, ap, ◌∙◌, subst, inl, inr}
 use Rattle.std.proofs.Common.{arith, nat_lt, nat_le, suc, zero, get_or}
 use Rattle.std.specs.Prelude.{◌^◌, ◌⊎◌}
 use Rattle.std.specs.List.{list_any}
@@ -10,8 +10,6 @@ use Rattle.std.proofs.lemmas.Cmp.{nat_cmp_total}
 use Rattle.std.proofs.lemmas.Bool.Decides.{nat_tests}
 use Rattle.std.proofs.lemmas.List.Folds.{list_any-append}
 use Rattle.judge_object.specs.Call.{Call, IsBehind, EachCall}
-use Rattle.std.specs.Global.{Vec}
-use Rattle.judge_object.specs.Rules.{given_text}
 use Rattle.judge_object.specs.declared.span.TheConstants.{NEVER}
 use Rattle.judge_object.specs.declared.line.Line.{Line}
 use Rattle.judge_search.specs.Walk.{InTurn, IsTimed, IsWhole}
@@ -79,9 +77,8 @@ not_true true h = cc
 not_true false h = refl
 
 -- what never ended ends later than all begin
-never : (b : Bool) (end : ℕ) → nat_lt end NEVER ≡ b → b ≡ false → 2 ^ 64 - 1 ≤ end
-never true end e f = cc
-never false end e f = let x : NEVER ≤ end = grind (arith, nat_tests) in omega arith
+never : (end : ℕ) → nat_lt end NEVER ≡ false → 2 ^ 64 - 1 ≤ end
+never end e = let x : NEVER ≤ end = grind (arith, nat_tests) in omega arith
 
 module _ {O : Type 0} where
   -- where no call was read no client has ended one
@@ -280,12 +277,8 @@ module _ {O : Type 0} where
   pub timed_of : (l : Line O) → l.begin < 2 ^ 64 → IsTimed (2 ^ 64 - 1) (call_of l)
   timed_of l b = record {
     begins = (let x : l.begin ≤ 2 ^ 64 - 1 = omega arith in x);
-    ends = λ f. never (is_some l.reply) l.end l.ended (sym (given (l.reply)) ∙ f);
+    ends = never l.end;
   }
-    where
-      given : (r : Option (Vec ℕ)) → is_some (given_text r) ≡ is_some r
-      given None = refl
-      given (Some text) = refl
 
   -- a call that begins later than the last of its client ended
   apart_from : (calls : List (Call O)) (c d : Call O) → d.client ≡ c.client → suc d.begin ≡ c.begin →

@@ -5,7 +5,7 @@ use Rattle.std.specs.Prelude.{◌⊎◌}
 use Rattle.std.specs.Str.{bytes_eq}
 use Rattle.std.proofs.lemmas.Slice.Eq.{bytes_eq-Decides}
 use Rattle.judge_object.specs.Rules.{Rules, IsAnswerOf}
-use Rattle.judge_object.specs.Call.{Call, IsBehind, is_answered}
+use Rattle.judge_object.specs.Call.{Call, IsBehind, is_completed}
 use Rattle.judge_object.specs.Orders.{of_client, IsOrderOf}
 use Rattle.judge_object.specs.Linear.{GiveReplies}
 use Rattle.judge_search.specs.Walk.{InTurn}
@@ -83,7 +83,7 @@ module _ {O : Type 0} (name : O → List ℕ) where
     merges = λ client. ap (of_client client) (sym (part_append k order h.left))
         ∙ part_client k client (order ++ h.left) ∙ ap (part name k) (h.merges client) ∙
         sym (part_client k client calls);
-    never = each_part (λ c. is_answered c ≡ false) k h.left h.never;
+    never = each_part (λ c. is_completed c ≡ false) k h.left h.never;
   }
 
 -- the state of an object that has changed, and of any other

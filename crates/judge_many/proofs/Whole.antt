@@ -1,4 +1,4 @@
--- Orders of each object's calls make one of all: of the answered calls that are left take the one
+-- Orders of each object's calls make one of all: of the completed calls that are left take the one
 -- that ends first; the first call in the order of its object may come next.
 use Rattle.std.proofs.Common.{◌≡◌, ℕ, ◌<◌, ◌≤◌, ◌==◌, suc, zero, Bool, true, false, cond, List, [], ◌∷◌}
 use Rattle.std.proofs.Common.{length, refl, sym, ap, ◌∙◌, subst, inl, inr, arith}
@@ -6,7 +6,7 @@ use Rattle.std.specs.Prelude.{◌⊎◌}
 use Rattle.std.specs.Str.{bytes_eq}
 use Rattle.std.proofs.lemmas.Bool.{cases_lt}
 use Rattle.judge_object.specs.Rules.{Rules}
-use Rattle.judge_object.specs.Call.{Call, is_answered}
+use Rattle.judge_object.specs.Call.{Call, is_completed}
 use Rattle.judge_object.specs.Orders.{of_client}
 use Rattle.judge_search.specs.Configurations.{Configuration, IsFirst, without_next, weight, answered, Goes}
 use Rattle.judge_search.specs.Configurations.{after_call, CallsReach, start}
@@ -17,7 +17,7 @@ use Rattle.judge_search.proofs.Completing.{linearization_of, completes_start}
 use Rattle.judge_many.specs.Many.{changed, is_for, part, many, IsApart, AreStrict, PartsMakeLinearizable}
 use Rattle.judge_many.proofs.OfOne.{named, each_part, turn_part, changed_here, changed_not}
 
--- whether a call is answered
+-- whether a call is completed
 abbrev Answers : Bool → Type 0
 Answers b = (b ≡ true) ⊎ (b ≡ false)
 
@@ -51,31 +51,31 @@ module _ {O : Type 0} where
       go true h = inr h
       go false h = h
 
-  -- the answered call that ends first
+  -- the completed call that ends first
   pub record IsSoonest (cs : List (Call O)) (e : Call O) : Type 0 where
     pub among : In e cs
-    pub some : is_answered e ≡ true
-    pub first : Each (λ o. is_answered o ≡ true → e.end ≤ o.end) cs
+    pub some : is_completed e ≡ true
+    pub first : Each (λ o. is_completed o ≡ true → e.end ≤ o.end) cs
 
   pub data Soonest (cs : List (Call O)) : Type 0 where
     Has : (e : Call O) → (is : IsSoonest cs e) → Soonest cs
-    HasNone : (none : Each (λ o. is_answered o ≡ false) cs) → Soonest cs
+    HasNone : (none : Each (λ o. is_completed o ≡ false) cs) → Soonest cs
 
-  none_first : (c : Call O) (cs : List (Call O)) → Each (λ o. is_answered o ≡ false) cs →
-      Each (λ o. is_answered o ≡ true → c.end ≤ o.end) cs
+  none_first : (c : Call O) (cs : List (Call O)) → Each (λ o. is_completed o ≡ false) cs →
+      Each (λ o. is_completed o ≡ true → c.end ≤ o.end) cs
   none_first c [] h = tt
   none_first c (d ∷ ds) h = (λ t. absurd (false_true (sym h.0 ∙ t)), none_first c ds h.1)
 
-  lower : (a b : Call O) (cs : List (Call O)) → a.end ≤ b.end → Each (λ o. is_answered o ≡ true → b.end ≤ o.end) cs →
-      Each (λ o. is_answered o ≡ true → a.end ≤ o.end) cs
+  lower : (a b : Call O) (cs : List (Call O)) → a.end ≤ b.end → Each (λ o. is_completed o ≡ true → b.end ≤ o.end) cs →
+      Each (λ o. is_completed o ≡ true → a.end ≤ o.end) cs
   lower a b [] l h = tt
   lower a b (c ∷ cs) l h = (λ t. (let m : b.end ≤ c.end = h.0 t in omega arith), lower a b cs l h.1)
 
   pub soonest : (cs : List (Call O)) → Soonest cs
   soonest [] = HasNone tt
-  soonest (c ∷ cs) = go (answers (is_answered c)) (soonest cs)
+  soonest (c ∷ cs) = go (answers (is_completed c)) (soonest cs)
     where
-      go : Answers (is_answered c) → Soonest cs → Soonest (c ∷ cs)
+      go : Answers (is_completed c) → Soonest cs → Soonest (c ∷ cs)
       go (inl t) (HasNone none) = Has c (record {
         among = inl refl;
         some = t;
@@ -255,24 +255,24 @@ module _ {T O R : Type 0} (Y : Rules T O R) (name : O → List ℕ) where
     pub completes : (k : List ℕ) →
         Completes Y (record { rest = part name k at.rest; state = at.state k }) (order k)
 
-  -- where no answered call is left, nothing more has to be placed
-  none_left : (cs : List (Call O)) → Each (λ o. is_answered o ≡ false) cs → answered cs ≡ 0
+  -- where no completed call is left, nothing more has to be placed
+  none_left : (cs : List (Call O)) → Each (λ o. is_completed o ≡ false) cs → answered cs ≡ 0
   none_left [] h = refl
   none_left (c ∷ cs) h = let w : weight c ≡ 0 = ap (λ b. cond b 1 0) h.0 in let r = none_left cs h.1 in omega arith
 
-  some_left : (cs : List (Call O)) (e : Call O) → In e cs → is_answered e ≡ true → 1 ≤ answered cs
+  some_left : (cs : List (Call O)) (e : Call O) → In e cs → is_completed e ≡ true → 1 ≤ answered cs
   some_left [] e i t = absurd i
-  some_left (c ∷ cs) e (inl i) t = let w : weight c ≡ 1 = ap (λ b. cond b 1 0) (ap is_answered (sym i) ∙ t) in
+  some_left (c ∷ cs) e (inl i) t = let w : weight c ≡ 1 = ap (λ b. cond b 1 0) (ap is_completed (sym i) ∙ t) in
       omega arith
   some_left (c ∷ cs) e (inr i) t = let r = some_left cs e i t in omega arith
 
-  -- a call that begins before the first answered one ends began before all that are left ended
+  -- a call that begins before the first completed one ends began before all that are left ended
   early : (last : ℕ) (cs : List (Call O)) (e h : Call O) → Each (IsTimed last) cs →
-      Each (λ o. is_answered o ≡ true → e.end ≤ o.end) cs → h.begin ≤ e.end → h.begin ≤ last →
+      Each (λ o. is_completed o ≡ true → e.end ≤ o.end) cs → h.begin ≤ e.end → h.begin ≤ last →
       Each (λ o. h.begin ≤ o.end) cs
   early last [] e h t f l m = tt
   early last (c ∷ cs) e h t f l m = (
-    elim (answers (is_answered c)) [
+    elim (answers (is_completed c)) [
       | inl x ↦ (let y : e.end ≤ c.end = f.0 x in omega arith)
       | inr x ↦ (let y : last ≤ c.end = t.0.ends x in omega arith)
     ],
@@ -360,7 +360,7 @@ module _ {T O R : Type 0} (Y : Rules T O R) (name : O → List ℕ) where
     pub order : List (Call O)
     pub completes : Completes (many Y name) at order
 
-  -- a call that begins before the first answered one ends is its client's first
+  -- a call that begins before the first completed one ends is its client's first
   is_first : (last : ℕ) (rest : List (Call O)) (e h : Call O) (k : List ℕ) → Each (IsTimed last) rest → AreStrict rest →
       IsSoonest rest e → IsFirst (part name k rest) h → h.begin ≤ e.end → h.begin ≤ last → IsFirst rest h
   is_first last rest e h k timed strict is first l m =
@@ -368,9 +368,9 @@ module _ {T O R : Type 0} (Y : Rules T O R) (name : O → List ℕ) where
         | inl f ↦ f
         | inr g ↦
             let apart : g.0.end < h.begin = g.1.apart in
-            elim (answers (is_answered g.0)) [
+            elim (answers (is_completed g.0)) [
               | inl x ↦
-                  let y : e.end ≤ g.0.end = each_in (λ o. is_answered o ≡ true →
+                  let y : e.end ≤ g.0.end = each_in (λ o. is_completed o ≡ true →
                   e.end ≤ o.end) rest g.0 is.first g.1.among x in
                   absurd (omega arith)
               | inr x ↦

@@ -3,7 +3,7 @@ use Rattle.std.specs.Prelude.{◌≡◌, ◌≢◌, ◌≤◌, ◌+◌, ⊤, ℕ
 use Rattle.std.specs.Ordering.{is_lt, nat_cmp}
 use Rattle.std.specs.Cmp.Lexicographic.{slice_cmp}
 use Rattle.judge_object.specs.Rules.{Rules}
-use Rattle.judge_object.specs.Call.{Call, is_answered}
+use Rattle.judge_object.specs.Call.{Call, is_completed}
 use Rattle.judge_object.specs.declared.line.Line.{Line}
 use Rattle.judge_object.specs.Orders.{IsMerge, IsLinearizable}
 use Rattle.judge_search.specs.Calls.{calls_of}
@@ -39,8 +39,8 @@ module _ {S O R : Type 0} (X : Rules S O R) where
   pub record AreBlocked (at : Configuration S O) : Type 0 where
     pub call : Call O
     pub may : MayBegin at.rest call
-    pub completed : is_answered call ≡ true
-    pub none : (other : Call O) → MayBegin at.rest other → is_answered other ≡ true →
+    pub completed : is_completed call ≡ true
+    pub none : (other : Call O) → MayBegin at.rest other → is_completed other ≡ true →
         fits X at.state other ≡ false
 
   -- no order of the calls of these lines is a linearization. The lines are kept by their ends, each

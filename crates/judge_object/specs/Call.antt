@@ -1,9 +1,11 @@
 -- A call of a client.
-use Rattle.std.specs.Prelude.{◌≡◌, ◌≤◌, ⊤, ℕ, Bool, Option, is_some, List, [], ◌∷◌}
+use Rattle.std.specs.Prelude.{◌≡◌, ◌≤◌, ⊤, ℕ, Bool, Option, List, [], ◌∷◌, nat_lt}
 use Rattle.judge_object.specs.declared.span.Span.{Span}
+use Rattle.judge_object.specs.declared.span.TheConstants.{NEVER}
 
 -- a call of a client: readings of the clock before the call began and after it returned, its
--- operation and the text of its reply. A pending call ends later than all readings and has no reply
+-- operation and the text of its reply. A pending call ends later than all readings. Its reply may
+-- be known all the same: then the call gave this reply, or never took effect
 pub record Call (O : Type 0) : Type 0 where
   pub client : ℕ
   pub begin : ℕ
@@ -25,6 +27,6 @@ module _ {O : Type 0} where
   EachCall P [] = ⊤
   EachCall P (call ∷ earlier) = P call × EachCall P earlier
 
-  -- the call is completed
-  abbrev pub is_answered : Call O → Bool
-  is_answered call = is_some call.reply
+  -- the call is completed: it ended at a reading of the clock
+  abbrev pub is_completed : Call O → Bool
+  is_completed call = nat_lt call.end NEVER

@@ -2,7 +2,7 @@
 -- and only if some order of its calls is a linearization.
 use Rattle.std.specs.Prelude.{◌≡◌, ◌==◌, ℕ, false, List, [], ◌∷◌, ◌++◌, if◌then◌else◌}
 use Rattle.judge_object.specs.Rules.{Rules}
-use Rattle.judge_object.specs.Call.{Call, EachCall, is_answered}
+use Rattle.judge_object.specs.Call.{Call, EachCall, is_completed}
 use Rattle.judge_object.specs.Linear.{IsLinearization}
 
 module _ {O : Type 0} where
@@ -17,11 +17,11 @@ module _ {O : Type 0} where
   IsMerge calls order = (client : ℕ) → of_client client order ≡ of_client client calls
 
   -- an order of the calls: each client's calls are in the order that they have here; calls that are
-  -- left out are the last of their clients, and pending
+  -- left out are the last of their clients, and pending, whether or not their replies are known
   pub record IsOrderOf (calls order : List (Call O)) : Type 0 where
     pub left : List (Call O)
     pub merges : IsMerge calls (order ++ left)
-    pub never : EachCall (λ call. is_answered call ≡ false) left
+    pub never : EachCall (λ call. is_completed call ≡ false) left
 
 -- some order of the calls is a linearization, from this state on
 pub record IsLinearizable {S O R : Type 0} (X : Rules S O R) (s : S) (calls : List (Call O)) :

@@ -18,12 +18,12 @@ abbrev pub given_text : Option (Vec ℕ) → Option (List ℕ)
 given_text given = option_map (λ (text : Vec ℕ). text.items) given
 
 module _ {S O R : Type 0} (X : Rules S O R) where
-  -- tests whether a call may have this reply: a pending call may have any
+  -- tests whether a call may have this reply: if the history gives none, any
   abbrev pub is_right : Option (List ℕ) → R → Bool
   is_right None expected = true
   is_right (Some text) expected = bytes_eq text (X.text expected)
 
-  -- a call may have this reply: the history gives the text of the reply, or the call is pending
+  -- a call may have this reply: the history gives the text of the reply, or gives none
   abbrev pub IsAnswerOf : R → Option (List ℕ) → Type 0
   IsAnswerOf reply None = ⊤
   IsAnswerOf reply (Some text) = X.text reply ≡ text

@@ -1,6 +1,6 @@
 //! A line of a history, as a search keeps it.
 
-ghost use Rattle.std.specs.Prelude.{◌≡◌, nat_lt, is_some};
+ghost use Rattle.std.specs.Prelude.{◌≡◌, ◌||◌, nat_le, is_some, true};
 ghost use Rattle.judge_object.specs.declared.span.TheConstants.{NEVER};
 
 /// A call of a client, with the line of the history that holds it.
@@ -18,9 +18,10 @@ pub struct Line<O> {
     pub end: u128,
     /// The operation.
     pub op: O,
-    /// The text of the reply, unless the call is pending.
+    /// The text of the reply. A pending call has one if its reply is known: then the call gave this
+    /// reply, or never took effect.
     pub reply: Option<Vec<u8>>,
     /// A lower bound on BEGIN of this line and of all lines after it, set by a search.
     pub soonest: u64,
-    ghost ended: { nat_lt end NEVER ≡ is_some reply },
+    ghost ended: { (is_some reply || nat_le NEVER end) ≡ true },
 }

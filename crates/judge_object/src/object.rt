@@ -44,7 +44,7 @@ pub trait Object: Sized {
         ensures { OnOk result (out.new.items ≡ out.old.items ++ rules.text reply.now) };
 }
 
-/// Returns whether a reply has the text that the history gives. Any reply of a pending call has.
+/// Returns whether a reply has the text that the history gives. If none is given, any is right.
 ///
 /// Not said: the contents of the buffer afterwards.
 pub fn is_right<M: Object>(

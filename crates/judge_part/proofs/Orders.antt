@@ -1,11 +1,13 @@
 -- Parts of linearizations: calls are left out or get another operation and reply, in the same order.
 use Rattle.std.proofs.Common.{◌≡◌, ℕ, ◌≤◌, ◌<◌, ◌==◌, Bool, true, false, cond, suc, zero, List, [], ◌∷◌, ◌++◌, refl}
 use Rattle.std.proofs.Common.{sym, ap, ◌∙◌, subst, arith, Option, Some, None, ◌⊎◌, inl, inr, append_assoc}
+use Rattle.std.specs.Prelude.{is_some, nat_lt}
 use Rattle.std.specs.List.{filter_map, cons_option}
 use Rattle.std.proofs.lemmas.Bool.Decides.{nat_tests}
+use Rattle.judge_object.specs.declared.span.TheConstants.{NEVER}
 use Rattle.judge_object.specs.Laws.{IsAt}
 use Rattle.judge_object.specs.Rules.{Rules, IsAnswerOf}
-use Rattle.judge_object.specs.Call.{Call, EachCall, is_answered}
+use Rattle.judge_object.specs.Call.{Call, EachCall, is_completed}
 use Rattle.judge_object.specs.Linear.{GiveReplies, CallsTakeTime, CallsAreSequential}
 use Rattle.judge_object.specs.Linear.{CallsKeepPrecedence}
 use Rattle.judge_object.specs.Orders.{of_client, IsOrderOf, IsLinearizable}
@@ -84,12 +86,12 @@ pub record Replaces {O : Type 0} (c d : Call O) : Type 0 where
   pub begin : d.begin ≡ c.begin
   pub end : d.end ≡ c.end
 
--- a state follows the state after a call, if the part of the call is made from it; the part of a pending call may be
+-- a state follows the state after a call, if the part of the call is made from it; a part without a known reply may be
 -- left out
 abbrev pub Follows : {S O R : Type 0} → Rules S O R → (S → S → Type 0) → S → S → Option (Call O) → Type 0
 Follows X Rel s p None = Rel s p
 Follows X Rel s p (Some d) = (IsAnswerOf X (X.run p d.op).1 d.reply × Rel s (X.run p d.op).0)
-    ⊎ ((is_answered d ≡ false) × Rel s p)
+    ⊎ ((is_some d.reply ≡ false) × Rel s p)
 
 abbrev pub step_from : (ℕ → ℕ) → ℕ → ℕ
 step_from from zero = zero
@@ -244,10 +246,11 @@ module _ {O : Type 0} where
           ∙ sym (ap (λ l. l ++ of_client k (d ∷ left)) both.0
           ∙ ap (λ t. cond t (d ∷ of_client k left) (of_client k left)) e ∙ ap (λ l. d ∷ l) both.1)
 
-module _ {O : Type 0} (f : Call O → Option (Call O))
-    (spans : (c d : Call O) → f c ≡ Some d → Replaces c d)
-    (stays : (c d : Call O) → is_answered c ≡ false → f c ≡ Some d → is_answered d ≡ false)
-    (waits : (c d : Call O) → f c ≡ Some d → is_answered d ≡ false → is_answered c ≡ false) where
+module _ {O : Type 0} (f : Call O → Option (Call O)) (spans : (c d : Call O) → f c ≡ Some d → Replaces c d) where
+  -- the part of a pending call is pending
+  stays : (c d : Call O) → f c ≡ Some d → is_completed c ≡ false → is_completed d ≡ false
+  stays c d e never = ap (λ n. nat_lt n NEVER) ((spans c d e).end) ∙ never
+
   filter_client : (k : ℕ) (cs : List (Call O)) → of_client k (filter_map f cs) ≡ filter_map f (of_client k cs)
   filter_client k [] = refl
   filter_client k (c ∷ cs) = go (f c) refl (c.client == k) refl (filter_client k cs)
@@ -265,19 +268,19 @@ module _ {O : Type 0} (f : Call O → Option (Call O))
           let same : (d.client == k) ≡ false = ap (λ n. n == k) ((spans c d e).client) ∙ t in
           rw same h
 
-  pending_option : (c : Call O) (o : Option (Call O)) → f c ≡ o → is_answered c ≡ false → (rest : List (Call O)) →
-      EachCall (λ d. is_answered d ≡ false) rest → EachCall (λ d. is_answered d ≡ false) (cons_option o rest)
+  pending_option : (c : Call O) (o : Option (Call O)) → f c ≡ o → is_completed c ≡ false → (rest : List (Call O)) →
+      EachCall (λ d. is_completed d ≡ false) rest → EachCall (λ d. is_completed d ≡ false) (cons_option o rest)
   pending_option c None e h rest more = more
-  pending_option c (Some d) e h rest more = (stays c d h e, more)
+  pending_option c (Some d) e h rest more = (stays c d e h, more)
 
-  all_pending : (cs : List (Call O)) → EachCall (λ c. is_answered c ≡ false) cs →
-      EachCall (λ d. is_answered d ≡ false) (filter_map f cs)
+  all_pending : (cs : List (Call O)) → EachCall (λ c. is_completed c ≡ false) cs →
+      EachCall (λ d. is_completed d ≡ false) (filter_map f cs)
   all_pending [] h = tt
   all_pending (c ∷ cs) h = pending_option c (f c) refl h.0 (filter_map f cs) (all_pending cs h.1)
 
   -- an order of the parts, without some of the last ones
   order_part : (calls order kept left : List (Call O)) → IsOrderOf calls order → Splits (filter_map f order) kept left →
-      EachCall (λ d. is_answered d ≡ false) left → IsOrderOf (filter_map f calls) kept
+      EachCall (λ d. is_completed d ≡ false) left → IsOrderOf (filter_map f calls) kept
   order_part calls order kept left h splits pending = record {
     left = left ++ filter_map f h.left;
     merges = λ k.
@@ -288,7 +291,7 @@ module _ {O : Type 0} (f : Call O → Option (Call O))
         ∙ sym (client_append k (filter_map f order) (filter_map f h.left))
         ∙ ap (of_client k) (sym (filter_append f order h.left))
         ∙ filter_client k (order ++ h.left) ∙ ap (filter_map f) (h.merges k) ∙ sym (filter_client k calls);
-    never = each_join (λ d. is_answered d ≡ false) left (filter_map f h.left) pending (all_pending h.left h.never);
+    never = each_join (λ d. is_completed d ≡ false) left (filter_map f h.left) pending (all_pending h.left h.never);
   }
 
   -- no part of these calls is of the client
@@ -296,7 +299,8 @@ module _ {O : Type 0} (f : Call O → Option (Call O))
   none_left k cs e = filter_client k cs ∙ ap (filter_map f) e
 
   module _ {S R : Type 0} (X : Rules S O R) (Rel : S → S → Type 0) (Fit : Call O → Type 0)
-      (last : (c d b : Call O) → Fit c → Fit b → f c ≡ Some d → is_answered c ≡ false → c.end ≤ b.begin → ⊥)
+      (pends : (c d : Call O) → Fit c → f c ≡ Some d → is_some d.reply ≡ false → is_completed d ≡ false)
+      (last : (c d b : Call O) → Fit c → Fit b → f c ≡ Some d → is_some d.reply ≡ false → c.end ≤ b.begin → ⊥)
       (steps : (s p : S) (c : Call O) → Rel s p → Fit c → IsAnswerOf X (X.run s c.op).1 c.reply →
       Follows X Rel (X.run s c.op).0 p (f c)) where
     -- the parts of calls that are in order, and what is left out of them
@@ -305,11 +309,11 @@ module _ {O : Type 0} (f : Call O → Option (Call O))
       pub left : List (Call O)
       pub embeds : Embeds cs kept
       pub replies : GiveReplies X p kept
-      pub pending : EachCall (λ d. is_answered d ≡ false) left
+      pub pending : EachCall (λ d. is_completed d ≡ false) left
       pub splits : Splits (filter_map f cs) kept left
 
-    -- no later call is of the client of a pending call
-    alone : (c d : Call O) (cs : List (Call O)) → f c ≡ Some d → is_answered c ≡ false → EachCall Fit (c ∷ cs) →
+    -- no later call is of the client of a call whose part may be left out
+    alone : (c d : Call O) (cs : List (Call O)) → f c ≡ Some d → is_some d.reply ≡ false → EachCall Fit (c ∷ cs) →
         CallsAreSequential (c ∷ cs) → of_client d.client cs ≡ []
     alone c d cs e never fit turns =
         let same = (spans c d e).client in
@@ -347,10 +351,10 @@ module _ {O : Type 0} (f : Call O → Option (Call O))
             left = d ∷ r.left;
             embeds = left_out c cs r.kept r.embeds;
             replies = r.replies;
-            pending = (never.0, r.pending);
+            pending = (pends c d fit.0 e never.0, r.pending);
             splits = λ k. ap (λ x. of_client k (cons_option x (filter_map f cs))) e
                 ∙ leave_one d (filter_map f cs) r.kept r.left
-                (none_left d.client cs (alone c d cs e (waits c d e never.0) fit turns)) r.splits k;
+                (none_left d.client cs (alone c d cs e never.0 fit turns)) r.splits k;
           }
     ]
 

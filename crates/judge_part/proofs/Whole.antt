@@ -6,6 +6,7 @@ use Rattle.std.specs.Prelude.{Option, Some, None, is_some, nat_lt, nat_le}
 use Rattle.std.specs.Option.{option_map, option_and_then}
 use Rattle.std.specs.Ordering.{nat_cmp}
 use Rattle.std.specs.FinMap as map
+use Rattle.std.proofs.lemmas.Bool.Decides.{nat_tests}
 use Rattle.std.specs.FinMap.{get}
 use Rattle.vac_model.specs.declared.limits.TheConstants.{MOST_BLOCKS}
 use Rattle.vac_model.specs.declared.items.Kind.{Kind}
@@ -22,7 +23,7 @@ use Rattle.vac_model.proofs.Kept.{le_true}
 use Rattle.vac_lines.specs.Text.{reply_text}
 use Rattle.judge_object.specs.declared.span.TheConstants.{NEVER}
 use Rattle.judge_object.specs.Rules.{IsAnswerOf}
-use Rattle.judge_object.specs.Call.{Call, EachCall, is_answered}
+use Rattle.judge_object.specs.Call.{Call, EachCall, is_completed}
 use Rattle.judge_object.specs.Orders.{IsLinearizable}
 use Rattle.judge_reservations.specs.Reserving.{reserving}
 use Rattle.judge_part.specs.declared.scope.Scope.{Scope}
@@ -42,6 +43,9 @@ use Rattle.judge_part.proofs.UpdateParts.{update_made}
 use Rattle.judge_part.proofs.TripParts.{trip_made}
 use Rattle.judge_part.proofs.PendingParts.{Waits, pending_made}
 use Rattle.judge_part.proofs.Orders.{Replaces, Follows, each_both, part_linearizable}
+
+not_before : (a b : ℕ) → b ≤ a → nat_lt a b ≡ false
+not_before a b e = grind (arith, nat_tests, e)
 
 module _ (scope : Scope) where
   abbrev Next : State → State → Option (Call Task) → Type 0
@@ -122,46 +126,24 @@ module _ (scope : Scope) where
       go None e = with_pended call d (pending_part scope call.op) e
       go (Some text) e = with_spans call d (task_part scope call.op text) e
 
-  -- the part of a pending call is pending, and that of a completed one is completed
-  is_pending : (call d : Call Task) (o : Option Task) → option_map (with_pending call) o ≡ Some d →
-      is_answered d ≡ false
-  is_pending call d None e = absurd (let never : None ≡ Some d = e in cc)
-  is_pending call d (Some a) e = subst (λ x. is_answered x ≡ false) (the_same (with_pending call a) d e) refl
-
-  is_completed : (call d : Call Task) (o : Option Answered) → option_map (with_answered call) o ≡ Some d →
-      is_answered d ≡ true
-  is_completed call d None e = absurd (let never : None ≡ Some d = e in cc)
-  is_completed call d (Some a) e = subst (λ x. is_answered x ≡ true) (the_same (with_answered call a) d e) refl
-
-  stays : (call d : Call Task) → is_answered call ≡ false → part_of_call scope call ≡ Some d → is_answered d ≡ false
-  stays call d never e = go call.reply never e
-    where
-      go : (given : Option (List ℕ)) → is_some given ≡ false → replied_part scope call given ≡ Some d →
-          is_answered d ≡ false
-      go None never e = is_pending call d (pending_part scope call.op) e
-      go (Some text) never e = absurd (let wrong : true ≡ false = never in cc)
-
-  still : (call d : Call Task) → part_of_call scope call ≡ Some d → is_answered d ≡ false → is_answered call ≡ false
-  still call d e never = go call.reply e
-    where
-      go : (given : Option (List ℕ)) → replied_part scope call given ≡ Some d → is_some given ≡ false
-      go None e = refl
-      go (Some text) e =
-          absurd (let wrong : true ≡ false = sym (is_completed call d (task_part scope call.op text) e) ∙ never in cc)
-
-  -- a call of which a pending part may be left out
-  has_choice : (call d : Call Task) → part_of_call scope call ≡ Some d → is_answered call ≡ false →
+  -- a call of which the part has no known reply
+  has_choice : (call d : Call Task) → part_of_call scope call ≡ Some d → is_some d.reply ≡ false →
       waits scope call ≡ true
-  has_choice call d e never = go call.reply never e
+  has_choice call d e unknown = go call.reply e
     where
       some : (o : Option Task) → option_map (with_pending call) o ≡ Some d → is_some o ≡ true
       some None e = absurd (let wrong : None ≡ Some d = e in cc)
       some (Some a) e = refl
 
-      go : (given : Option (List ℕ)) → is_some given ≡ false → replied_part scope call given ≡ Some d →
+      known : (o : Option Answered) → option_map (with_answered call) o ≡ Some d → is_some d.reply ≡ true
+      known None e = absurd (let wrong : None ≡ Some d = e in cc)
+      known (Some a) e = subst (λ x. is_some x.reply ≡ true) (the_same (with_answered call a) d e) refl
+
+      go : (given : Option (List ℕ)) → replied_part scope call given ≡ Some d →
           (not (is_some given) && is_some (pending_part scope call.op)) ≡ true
-      go None never e = some (pending_part scope call.op) e
-      go (Some text) never e = absurd (let wrong : true ≡ false = never in cc)
+      go None e = some (pending_part scope call.op) e
+      go (Some text) e =
+          absurd (let wrong : true ≡ false = sym (known (task_part scope call.op text) e) ∙ unknown in cc)
 
   no_item : (n : ℕ) (kind : Kind) (id : ℕ) → item_of (empty_state n) kind id ≡ None
   no_item n Car id = map.get-empty nat_cmp id
@@ -209,28 +191,43 @@ module _ (scope : Scope) where
   abbrev Timed : Call Task → Type 0
   Timed call = is_timed call ≡ true
 
-  never_late : (c d b : Call Task) → Fits c × Never c → Fits b × Never b → part_of_call scope c ≡ Some d →
-      is_answered c ≡ false → c.end ≤ b.begin → ⊥
-  never_late c d b fit other e never late =
-      let choice = has_choice c d e never in
-      let wrong : true ≡ false = sym choice ∙ fit.1 in cc
+  -- if no call waits, each part has a known reply
+  all_known : (c d : Call Task) → Never c → part_of_call scope c ≡ Some d → is_some d.reply ≡ false → ⊥
+  all_known c d never e unknown = let wrong : true ≡ false = sym (has_choice c d e unknown) ∙ never in cc
 
-  end_is : (call : Call Task) → Timed call → is_answered call ≡ false → NEVER ≤ call.end
-  end_is call timed never =
-      let both = both_true (nat_lt call.begin NEVER) (is_some call.reply || nat_le NEVER call.end) timed in
-      let late : nat_le NEVER call.end ≡ true =
-      ap (λ t. t || nat_le NEVER call.end) (sym never) ∙ both.1 in
-      le_true NEVER call.end late
+  end_is : (call : Call Task) → Timed call → waits scope call ≡ true → NEVER ≤ call.end
+  end_is call timed wait = go (is_some call.reply) timed wait
+    where
+      go : (known : Bool) → (nat_lt call.begin NEVER && (known || nat_le NEVER call.end)) ≡ true →
+          (not known && is_some (pending_part scope call.op)) ≡ true → NEVER ≤ call.end
+      go true timed wait = absurd (let wrong : false ≡ true = wait in cc)
+      go false timed wait =
+          le_true NEVER call.end (both_true (nat_lt call.begin NEVER) (nat_le NEVER call.end) timed).1
 
   begin_is : (call : Call Task) → Timed call → call.begin < NEVER
   begin_is call timed =
       let both = both_true (nat_lt call.begin NEVER) (is_some call.reply || nat_le NEVER call.end) timed in
       lt_true call.begin NEVER both.0
 
+  never_pends : (c d : Call Task) → Fits c × Never c → part_of_call scope c ≡ Some d → is_some d.reply ≡ false →
+      is_completed d ≡ false
+  never_pends c d fit e unknown = absurd (all_known c d fit.1 e unknown)
+
+  never_late : (c d b : Call Task) → Fits c × Never c → Fits b × Never b → part_of_call scope c ≡ Some d →
+      is_some d.reply ≡ false → c.end ≤ b.begin → ⊥
+  never_late c d b fit other e unknown late = all_known c d fit.1 e unknown
+
+  timed_pends : (c d : Call Task) → Fits c × Timed c → part_of_call scope c ≡ Some d → is_some d.reply ≡ false →
+      is_completed d ≡ false
+  timed_pends c d fit e unknown =
+      let ends = end_is c fit.1 (has_choice c d e unknown) in
+      let same = (spans c d e).end in
+      not_before d.end NEVER (omega (arith, ends, same))
+
   timed_late : (c d b : Call Task) → Fits c × Timed c → Fits b × Timed b → part_of_call scope c ≡ Some d →
-      is_answered c ≡ false → c.end ≤ b.begin → ⊥
-  timed_late c d b fit other e never late =
-      let ends = end_is c fit.1 never in
+      is_some d.reply ≡ false → c.end ≤ b.begin → ⊥
+  timed_late c d b fit other e unknown late =
+      let ends = end_is c fit.1 (has_choice c d e unknown) in
       let begins = begin_is b other.1 in
       omega (arith, ends, begins, late)
 
@@ -239,12 +236,12 @@ module _ (scope : Scope) where
       IsLinearizable reserving (empty_state blocks) calls →
       IsLinearizable reserving (empty_state MOST_BLOCKS) (part_of_history scope calls)
   parts_linearizable blocks calls few fit timed h = elim timed [
-    | inl none ↦ part_linearizable (part_of_call scope) spans stays still reserving (HasPart scope)
-        (λ call. Fits call × Never call) never_late
+    | inl none ↦ part_linearizable (part_of_call scope) spans reserving (HasPart scope)
+        (λ call. Fits call × Never call) never_pends never_late
         (λ s p call has both is. step_part s p call has both.0 is) (empty_state blocks) (empty_state MOST_BLOCKS) calls
         (first blocks few) (each_both Fits Never calls fit none) h
-    | inr all ↦ part_linearizable (part_of_call scope) spans stays still reserving (HasPart scope)
-        (λ call. Fits call × Timed call) timed_late
+    | inr all ↦ part_linearizable (part_of_call scope) spans reserving (HasPart scope)
+        (λ call. Fits call × Timed call) timed_pends timed_late
         (λ s p call has both is. step_part s p call has both.0 is) (empty_state blocks) (empty_state MOST_BLOCKS) calls
         (first blocks few) (each_both Fits Timed calls fit all) h
   ]

@@ -1,4 +1,5 @@
--- The part of a completed task on a scope: a task with the text of its reply, or nothing.
+-- The part of a completed task on a scope: a task with the text of its reply, or nothing. A pending
+-- call whose reply is known has the same part, which is pending too.
 use Rattle.std.specs.Prelude.{ℕ, Bool, true, not, ◌||◌, Option, List}
 use Rattle.std.specs.Option.{option_map}
 use Rattle.vac_model.specs.declared.replies.Reply.TheVariants as reply

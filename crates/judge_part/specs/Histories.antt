@@ -20,7 +20,7 @@ with_answered call a = record {
   reply = Some a.1;
 }
 
--- a pending call with another task
+-- a call whose reply is unknown, with another task
 abbrev pub with_pending : Call Task → Task → Call Task
 with_pending call t = record {
   client = call.client;
@@ -30,7 +30,8 @@ with_pending call t = record {
   reply = None;
 }
 
--- the part of a call, given its reply
+-- the part of a call, given its reply. The part ends when the call ends: the part of a pending call
+-- is pending, and its reply is known if the reply of the call is
 abbrev pub replied_part : Scope → Call Task → Option (List ℕ) → Option (Call Task)
 replied_part scope call None = option_map (with_pending call) (pending_part scope call.op)
 replied_part scope call (Some text) = option_map (with_answered call) (task_part scope call.op text)
@@ -52,16 +53,16 @@ reply_fits scope t (Some text) = answer_fits scope t text
 abbrev pub fits : Scope → Call Task → Bool
 fits scope call = is_task call.op && reply_fits scope call.op call.reply
 
--- tests if a call is pending and has a part
+-- tests if the reply of a call is unknown and the call has a part
 abbrev pub waits : Scope → Call Task → Bool
 waits scope call = not (is_some call.reply) && is_some (pending_part scope call.op)
 
 -- tests if a call begins before the time that no reading of the clock reaches, and ends no sooner
--- than that time if it is pending
+-- than that time if its reply is unknown
 abbrev pub is_timed : Call Task → Bool
 is_timed call = nat_lt call.begin NEVER && (is_some call.reply || nat_le NEVER call.end)
 
--- each call is timed, unless no pending call has a part
+-- each call is timed, unless no call has a part whose reply is unknown
 abbrev pub AreTimed : Scope → List (Call Task) → Type 0
 AreTimed scope calls =
     EachCall (λ call. waits scope call ≡ false) calls

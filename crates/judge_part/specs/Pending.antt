@@ -1,5 +1,5 @@
--- The part of a pending call on a scope: a task that has the effect of the call on the scope, if
--- the call took effect there.
+-- The part on a scope of a pending call whose reply is unknown: a task that has the effect of the
+-- call on the scope, if the call took effect there.
 use Rattle.std.specs.Prelude.{Bool, true, not, ◌&&◌, ◌||◌, Option, Some, None, nat_le, count_by, if◌then◌else◌}
 use Rattle.std.specs.List.{find, list_all}
 use Rattle.std.specs.Option.{option_map}

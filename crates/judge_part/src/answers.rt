@@ -1,4 +1,4 @@
-//! The part of a completed task.
+//! The part of a completed task. A pending call whose reply is known has the same part.
 
 ghost use Rattle.std.specs.Prelude.{◌≡◌, ◌&&◌, not, Some, None, if◌then◌else◌, IfOk};
 ghost use Rattle.vac_model.specs.declared.commands.Command.TheVariants as command;

@@ -10,10 +10,10 @@ use crate::scope::Scope;
 use crate::trips::trip_fits;
 use vac_model::{Command, Task};
 
-/// Returns whether a call of this task and reply, or a pending call of this task, has a part: the
-/// task can be submitted, and books nothing that the scope does not allow. A pending trip of a
-/// customer of the scope has a part if it asks for no item of the scope, and a pending update if at
-/// most one of its changes concerns the scope.
+/// Returns whether a call of this task has a part, with this reply or with a reply that is not
+/// known: the task can be submitted, and books nothing that the scope does not allow. If the reply
+/// is not known, a trip of a customer of the scope has a part if it asks for no item of the scope,
+/// and an update if at most one of its changes concerns the scope.
 pub fn fits(scope: &Scope, task: &Task, reply: Option<&[u8]>) -> bool
     ensures { result
         ≡ (is_task task.now && reply_fits scope.now task.now (option_copied reply.entry)) }

@@ -17,8 +17,9 @@ use std::alloc::{AllocError, Global};
 use vac_model::Task;
 
 /// Returns the part of a history on a scope: the parts of its calls, in the order of the lines,
-/// each with the number of its line in the history. The lines of the part have no text. The part
-/// shows something of the history only if all its calls have parts that fit (`has_part`).
+/// each with the number of its line in the history. The part of a pending call is pending, and its
+/// reply is known if the reply of the call is. The lines of the part have no text. The part shows
+/// something of the history only if all its calls have parts that fit (`has_part`).
 pub fn part_of_history(
     alloc: Global,
     scope: &Scope,

@@ -1,4 +1,4 @@
-//! The part of a pending call.
+//! The part of a pending call whose reply is unknown.
 
 ghost use Rattle.std.specs.Prelude.{◌≡◌, count_by, nat_le};
 ghost use Rattle.std.specs.List.{find, list_all};
@@ -10,9 +10,9 @@ use crate::calls::command_allowed;
 use crate::scope::Scope;
 use vac_model::{Command, Kind, Task};
 
-/// Returns the part of a pending call of this task. If the call fits (`pending_fits`), the part has
-/// the effect of the call on the scope, if the call took effect there. Returns `None` if the call
-/// changes nothing of the scope.
+/// Returns the part of a pending call of this task whose reply is unknown. If the call fits
+/// (`pending_fits`), the part has the effect of the call on the scope, if the call took effect
+/// there. Returns `None` if the call changes nothing of the scope.
 pub fn pending_part(scope: &Scope, task: &Task) -> Option<Task>
     ensures { result ≡ pending.pending_part scope.now task.now }
 {
@@ -47,7 +47,7 @@ pub fn pending_part(scope: &Scope, task: &Task) -> Option<Task>
     }
 }
 
-/// Returns whether a pending call of this task has a part.
+/// Returns whether a pending call of this task, whose reply is unknown, has a part.
 pub(crate) fn pending_fits(scope: &Scope, task: &Task) -> bool
     ensures { result ≡ pending.pending_fits scope.now task.now }
 {

@@ -1,14 +1,17 @@
 -- The text for a history as it stood at a moment.
 use Rattle.std.proofs.Common.{◌≡◌, ◌<◌, ◌≤◌, ◌+◌, ◌&&◌, ◌∙◌, ℕ, Bool, true, false, not, List, [], ◌∷◌, Option, Some}
 use Rattle.std.proofs.Common.{None}
-use Rattle.std.proofs.Common.{refl, sym, subst, inl}
+use Rattle.std.proofs.Common.{refl, sym, ap, subst, inl, arith, ◌||◌, cond, is_some, nat_le, nat_lt}
+use Rattle.std.proofs.lemmas.Bool.Decides.{nat_tests}
+use Rattle.std.specs.Global.{Vec}
 use Rattle.std.specs.List.{list_all, position, cons_option}
 use Rattle.vac_model.proofs.Ids.{both_true}
 use Rattle.vac_model.specs.declared.tasks.Task.{Task}
 use Rattle.vac_model.specs.State.{Place}
 use Rattle.judge_object.specs.declared.span.TheConstants.{NEVER}
 use Rattle.judge_object.specs.declared.line.Line.{Line}
-use Rattle.judge_levels.specs.Cut.{cut, cut_call}
+use Rattle.judge_object.specs.Rules.{given_text}
+use Rattle.judge_levels.specs.Cut.{cut, cut_call, running}
 use Rattle.judge_calls.specs.Call.{Call}
 use Rattle.judge_calls.specs.Laws.{Lists}
 use Rattle.judge_part.specs.declared.scope.Scope.{Scope}
@@ -21,7 +24,7 @@ use Rattle.judge_part_text.specs.Until.{IsTextOfCut}
 use Rattle.judge_part_text.specs.Laws.{IsIllegalFrom}
 use Rattle.judge_part_text.proofs.Histories.{same_calls}
 use Rattle.judge_part_text.proofs.Without.{all_pass, position_map}
-use Rattle.judge_part.specs.Histories.{part_of_history}
+use Rattle.judge_part.specs.Histories.{part_of_history, fits}
 use Rattle.judge_part.specs.Laws.{IllegalPartsShow}
 use Rattle.judge_levels.proofs.Cuts.{cut_linearizable}
 use Rattle.judge_object.specs.Orders.{IsLinearizable}
@@ -45,6 +48,48 @@ cut_all scope moment (c ∷ cs) h =
         list_all (has_part scope) (cons_option o (cut moment cs)) ≡ true
     one None e rest = rest
     one (Some d) e rest = both (has_part scope d) (list_all (has_part scope) (cut moment cs)) e rest
+
+-- the reply of a line's call is known if the line has one
+given_some : (r : Option (Vec ℕ)) → is_some (given_text r) ≡ is_some r
+given_some None = refl
+given_some (Some text) = refl
+
+-- a call ends never, or its reply is known
+pub line_ended : (line : Line Task) → (is_some line.reply || nat_le NEVER line.end) ≡ true →
+    (is_some (call_of line).reply || nat_le NEVER (call_of line).end) ≡ true
+line_ended line e = ap (λ b. b || nat_le NEVER line.end) (given_some line.reply) ∙ e
+
+late_same : (known : Bool) (end : ℕ) → (known || nat_le NEVER end) ≡ true →
+    (known || nat_le NEVER (cond {A = ℕ} (nat_lt end NEVER) NEVER end)) ≡ (known || nat_le NEVER end)
+late_same true end e = refl
+late_same false end e =
+    let late : nat_lt end NEVER ≡ false = grind (arith, nat_tests, e) in
+    ap (λ b. nat_le NEVER (cond {A = ℕ} b NEVER end)) late
+
+-- a running call has a part if the call has one
+running_part : (scope : Scope) (c : Call) → (is_some c.reply || nat_le NEVER c.end) ≡ true →
+    has_part scope (running c) ≡ has_part scope c
+running_part scope c e =
+    ap (λ timed. fits scope c && (nat_lt c.begin NEVER && timed)) (late_same (is_some c.reply) c.end e)
+
+-- a call that had begun had a part if the call has one
+pub had_as_is : (scope : Scope) (moment : ℕ) (c : Call) → (is_some c.reply || nat_le NEVER c.end) ≡ true →
+    is_some (cut_call moment c) ≡ true → has_part scope c ≡ had_part scope moment c
+had_as_is scope moment c e = go (nat_le c.end moment) (nat_le c.begin moment)
+  where
+    go : (ended begun : Bool) → is_some (cond ended (Some c) (cond begun (Some (running c)) None)) ≡ true →
+        has_part scope c ≡ may_have_part scope (cond ended (Some c) (cond begun (Some (running c)) None))
+    go true begun h = refl
+    go false true h = sym (running_part scope c e)
+    go false false h = absurd (let never : false ≡ true = h in cc)
+
+pub had_not_begun : (scope : Scope) (moment : ℕ) (c : Call) → is_some (cut_call moment c) ≡ false →
+    true ≡ had_part scope moment c
+had_not_begun scope moment c = go (cut_call moment c)
+  where
+    go : (o : Option Call) → is_some o ≡ false → true ≡ may_have_part scope o
+    go None h = refl
+    go (Some d) h = absurd (let never : true ≡ false = h in cc)
 
 -- some call had no part, if the cut has no scope
 pub none_then : (customers : List ℕ) (items : List Place) (moment : ℕ) (lines : List (Line Task)) (scope : Scope) →

@@ -11,7 +11,7 @@ use Rattle.vac_lines.specs.Writing.{AppendsPrefix}
 use Rattle.vac_lines.specs.declared.stream_fault.StreamFault.{StreamFault}
 use Rattle.vac_lines.specs.declared.stream_fault.StreamFault.TheVariants as fault
 use Rattle.judge_object.specs.declared.span.TheConstants.{NEVER}
-use Rattle.judge_object.specs.Call.{is_answered}
+use Rattle.judge_object.specs.Call.{is_completed}
 use Rattle.judge_levels.specs.Cut.{cut, cut_call}
 use Rattle.judge_calls.specs.Call.{Call}
 use Rattle.judge_calls.specs.HeldReading.{IsReadWhole}
@@ -24,7 +24,7 @@ use Rattle.judge_part_text.specs.Parting.{IsOpen, IsPartOfCalls, IsDamageText, n
 
 -- END of a call, if the call is completed
 abbrev pub completed_end : Call → Option ℕ
-completed_end call = if is_answered call then Some call.end else None
+completed_end call = if is_completed call then Some call.end else None
 
 -- END of the call of the line with this number, counted from 1, if there is such a line and its
 -- call is completed

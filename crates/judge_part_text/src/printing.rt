@@ -6,27 +6,27 @@ ghost use Rattle.vac_lines.specs.TaskText.{task_text};
 ghost use Rattle.judge_calls.specs.CallText.{call_text, end_text, answer_text, history_text};
 ghost use Rattle.judge_part.specs.Lines.{call_of, calls_of};
 
-use judge_object::Line;
+use judge_object::{Line, NEVER};
 use judge_reservations::ValidTask;
 use std::alloc::AllocError;
 use vac_lines::{append_field, print_task};
 
 /// Appends END of a call.
 fn append_end(line: &Line<ValidTask>, out: &mut Vec<u8>) -> Result<(), AllocError>
-    ensures { OnOk result (out.new.items
-        ≡ out.old.items ++ end_text (call_of line.now).reply (call_of line.now).end) }
+    ensures { OnOk result
+        (out.new.items ≡ out.old.items ++ end_text (call_of line.now).end) }
 {
-    match &line.reply {
-        Some(_) => append_field(out, b"", line.end as u64),
-        None => out.extend_from_slice(b"-"),
+    if line.end < NEVER {
+        return append_field(out, b"", line.end as u64);
     }
+    out.extend_from_slice(b"-")
 }
 
 /// Appends a call's client and times, with a space after each.
 fn append_stamps(line: &Line<ValidTask>, out: &mut Vec<u8>) -> Result<(), AllocError>
     ensures { OnOk result (out.new.items ≡ out.old.items
         ++ decimal line.now.client ++ codes " " ++ decimal line.now.begin ++ codes " "
-        ++ end_text (call_of line.now).reply (call_of line.now).end ++ codes " ") }
+        ++ end_text (call_of line.now).end ++ codes " ") }
 {
     append_field(out, b"", u64::from(line.client))?;
     append_field(out, b" ", line.begin)?;

@@ -1,15 +1,16 @@
 //! Reading the calls of a history, in whatever order.
 
 ghost use Rattle.std.specs.Prelude.{◌≡◌, ◌∷◌, ◌<◌, [], true, IfOk, MatchOption, length};
+ghost use Rattle.std.specs.Option.{option_copied};
 ghost use Rattle.vac_model.specs.Ranges.{is_task};
 ghost use Rattle.vac_lines.specs.Lines.{lines_of};
 ghost use Rattle.judge_object.specs.Rules.{given_text};
-ghost use Rattle.judge_calls.specs.Parts.{shown_call, shown_end, shown_reply};
+ghost use Rattle.judge_calls.specs.Parts.{shown_call};
 ghost use Rattle.judge_part.specs.Lines.{call_of};
 ghost use Rattle.judge_part_text.specs.Reading.{IsReadLine, IsReadingOf};
 
-use judge_calls::{Answer, CallFault, CallLine, read_call};
-use judge_object::{Line, NEVER};
+use judge_calls::{CallFault, CallLine, read_call};
+use judge_object::Line;
 use judge_reservations::ValidTask;
 use std::alloc::{AllocError, Global};
 use vac_lines::{LineFault, cut_at};
@@ -23,22 +24,12 @@ pub(crate) enum Reading {
     Damaged(u64, CallFault),
 }
 
-/// Returns the end of a call, [`NEVER`] for a pending call.
-fn end_of(answer: Option<Answer<'_>>) -> u128
-    ensures { result ≡ shown_end answer.entry }
+/// Returns a copy of the text of a reply, or `None` if the reply is not known.
+fn copy_reply(alloc: Global, given: Option<&[u8]>) -> Result<Option<Vec<u8>>, AllocError>
+    ensures { IfOk result (λ reply. given_text reply ≡ option_copied given.entry) }
 {
-    match answer {
-        Some(answer) => u128::from(answer.end),
-        None => NEVER,
-    }
-}
-
-/// Returns a copy of the text of the reply, or `None` for a pending call.
-fn reply_of(alloc: Global, answer: Option<Answer<'_>>) -> Result<Option<Vec<u8>>, AllocError>
-    ensures { IfOk result (λ reply. given_text reply ≡ shown_reply answer.entry) }
-{
-    match answer {
-        Some(answer) => Ok(Some(Vec::from_slice(alloc, answer.reply)?)),
+    match given {
+        Some(text) => Ok(Some(Vec::from_slice(alloc, text)?)),
         None => Ok(None),
     }
 }
@@ -48,8 +39,8 @@ fn line_of(alloc: Global, number: u64, call: CallLine<'_>) -> Result<Line<ValidT
     requires { is_task call.task ≡ true }
     ensures { IfOk result (λ line. call_of line ≡ shown_call call.entry) }
 {
-    let end = end_of(call.answer);
-    let reply = reply_of(alloc, call.answer)?;
+    let end = call.end_or_never();
+    let reply = copy_reply(alloc, call.reply)?;
     Ok(Line {
         number,
         text: Vec::new(alloc),

@@ -1,9 +1,9 @@
 //! Writing the part of a history as it stood at the end of a call.
 
-ghost use Rattle.std.specs.Prelude.{◌≡◌, ◌<◌, ◌++◌, not, IfOk, IfErr, IfSome, MatchOption, OnOk};
+ghost use Rattle.std.specs.Prelude.{◌≡◌, ◌<◌, ◌++◌, not, is_some, IfOk, IfErr, IfSome, MatchOption, OnOk};
 ghost use Rattle.std.specs.List.{position};
 ghost use Rattle.judge_object.specs.declared.span.TheConstants.{NEVER};
-ghost use Rattle.judge_levels.specs.Cut.{running};
+ghost use Rattle.judge_levels.specs.Cut.{cut_call};
 ghost use Rattle.judge_part.specs.Largest.{HasNoScope};
 ghost use Rattle.judge_part.specs.Lines as spec;
 ghost use Rattle.judge_part_text.specs.Naming as naming;
@@ -19,7 +19,7 @@ use judge_calls::{Verdict, print_verdict, read_all};
 use judge_heuristic::Names;
 use judge_levels::cut_lines;
 use judge_object::{Line, NEVER};
-use judge_part::{Scope, fits, part_of_history, scope_of};
+use judge_part::{Scope, part_of_history, scope_of};
 use judge_reservations::ValidTask;
 use std::alloc::{AllocError, Global};
 use std::io::{Read, Write};
@@ -35,35 +35,29 @@ fn end_at(lines: &[Line<ValidTask>], line: u64) -> Option<u64>
         return None;
     }
     let line = lines.get((line - 1) as usize)?;
-    match &line.reply {
-        Some(_) => Some(line.end as u64),
-        None => None,
+    if line.end < NEVER {
+        return Some(line.end as u64);
     }
+    None
 }
 
-/// Returns whether a call that is running has a part, and is timed.
-fn has_running_part(scope: &Scope, line: &Line<ValidTask>) -> bool
-    ensures { result ≡ spec.has_part scope.now (running (spec.call_of line.now)) }
+/// Returns whether the call of a line had begun by a moment.
+fn had_begun(moment: u64, line: &Line<ValidTask>) -> bool
+    ensures { result ≡ is_some (cut_call moment (spec.call_of line.now)) }
 {
-    u128::from(line.begin) < NEVER
-        && match &line.reply {
-            Some(_) => fits(scope, line.op.task(), None),
-            None => NEVER <= line.end && fits(scope, line.op.task(), None),
-        }
+    line.end <= u128::from(moment) || line.begin <= moment
 }
 
 /// Returns whether the call of a line, as it stood at a moment, has a part and is timed, or had not
-/// begun then.
+/// begun then. A running call keeps its reply if it is known, so that the part of a running call is
+/// the part of the call, but for its end.
 fn had_part(scope: &Scope, moment: u64, line: &Line<ValidTask>) -> bool
     ensures { result ≡ had_part scope.now moment (spec.call_of line.now) }
 {
-    if line.end <= u128::from(moment) {
-        has_part(scope, line)
-    } else if line.begin <= moment {
-        has_running_part(scope, line)
-    } else {
-        true
+    if had_begun(moment, line) {
+        return has_part(scope, line);
     }
+    true
 }
 
 /// Returns the position of the first line whose call, as it stood at a moment, had no part on a
@@ -181,10 +175,10 @@ fn find_text(
 /// Reads a history to the end of the input, and writes the part of its cut at the end of the call
 /// of a line, on the scope of some customers and items: one line for each call that had begun by
 /// then and has a part, in the order of the history, with the client and the times of the call. A
-/// call that was running then is written as a pending call. Lines are counted from 1. If a line is
-/// no call, writes the fault of the first such line; if the given line has no completed call, this
-/// fault; and if some call, as it stood then, has no part, the first such call. Returns whether the
-/// part was written.
+/// call that was running then is written as a pending call: as an undetermined one if its reply is
+/// known. Lines are counted from 1. If a line is no call, writes the fault of the first such line;
+/// if the given line has no completed call, this fault; and if some call, as it stood then, has no
+/// part, the first such call. Returns whether the part was written.
 ///
 /// After a fault of the output a prefix of the text was written, after any other fault nothing.
 pub fn write_part_until<R: Read, W: Write>(

@@ -68,7 +68,7 @@ module _ {S O R : Type 0} (X : Rules S O R) where
             (All-cons (λ p. p < length cs) place [] within (All-nil (λ p. p < length cs)));
       }
 
-  -- no answered call is left
+  -- no completed call is left
   pub placed_all : (s : S) (lines : List (Line O)) (places : List ℕ) (point : Point S) → IsWhole (calls_of lines) →
       HavePlaces X s (calls_of lines) places point → answered (rest_of (made_of point) 0 (calls_of lines)) ≡ 0 →
       IsLinearizedBy X s (calls_of lines) places

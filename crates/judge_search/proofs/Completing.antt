@@ -1,11 +1,11 @@
--- An order that is a linearization is one of calls that go one after the other, until no answered
+-- An order that is a linearization is one of calls that go one after the other, until no completed
 -- call is left.
 use Rattle.std.proofs.Common.{◌≡◌, ◌≤◌, ℕ, false, List, [], ◌∷◌, ◌++◌, refl, sym, subst, arith}
 use Rattle.judge_object.specs.Call.{Call}
 use Rattle.judge_object.specs.Call.{IsBehind}
 use Rattle.judge_object.specs.Linear.{GiveReplies, IsLinearization}
 use Rattle.judge_search.proofs.Right.{answer_of, of_answer}
-use Rattle.judge_object.specs.Call.{is_answered}
+use Rattle.judge_object.specs.Call.{is_completed}
 use Rattle.judge_object.specs.Orders.{IsMerge, IsOrderOf}
 use Rattle.judge_search.specs.Configurations.{Configuration, Goes, CallsReach, start, without_next, after_call}
 use Rattle.judge_search.specs.Configurations.{answered}
@@ -21,7 +21,7 @@ module _ {S O R : Type 0} (X : Rules S O R) where
   record Orders (at : Configuration S O) (order : List (Call O)) : Type 0 where
     left : List (Call O)
     merges : IsMerge at.rest (order ++ left)
-    never : Each (λ c. is_answered c ≡ false) left
+    never : Each (λ c. is_completed c ≡ false) left
     replies : (GiveReplies X) at.state order
     precedes : Precedes order
 
@@ -37,9 +37,9 @@ module _ {S O R : Type 0} (X : Rules S O R) where
   each_back P [] ys h = h
   each_back P (x ∷ xs) ys h = each_back P xs ys h.1
 
-  -- what was never answered ends later than all begin
+  -- a pending call ends later than all begin
   ends_last : (last b : ℕ) (cs : List (Call O)) → b ≤ last → Each (IsTimed last) cs →
-      Each (λ c. is_answered c ≡ false) cs →
+      Each (λ c. is_completed c ≡ false) cs →
       Each (λ c. b ≤ c.end) cs
   ends_last last b [] l h n = tt
   ends_last last b (c ∷ cs) l h n = (let e : last ≤ c.end = h.0.ends n.0 in omega arith, ends_last last b cs l h.1 n.1)
@@ -72,9 +72,9 @@ module _ {S O R : Type 0} (X : Rules S O R) where
         },
       )
 
-  none_left : (rest left : List (Call O)) → IsMerge rest left → Each (λ c. is_answered c ≡ false) left →
+  none_left : (rest left : List (Call O)) → IsMerge rest left → Each (λ c. is_completed c ≡ false) left →
       answered rest ≡ 0
-  none_left rest left m n = (none_answered X) rest (each_order (λ c. is_answered c ≡ false) left rest
+  none_left rest left m n = (none_answered X) rest (each_order (λ c. is_completed c ≡ false) left rest
       (λ k. sym (m k)) n)
 
   completes_of : (at : Configuration S O) (order : List (Call O)) → IsWhole at.rest → Orders at order →

@@ -200,7 +200,7 @@ module _ {S O R : Type 0} (X : Rules S O R) where
         fit = goes.fit;
       }
 
-  -- and after the last no answered call is left
+  -- and after the last no completed call is left
   pub none_left : (s : S) (calls : List (Call O)) (places : List ℕ) (point : Point S) → IsWhole calls →
       IsLinearizedInTurn X s calls places → HavePlaces X s calls places point →
       answered (rest_of (made_of point) 0 calls) ≡ 0

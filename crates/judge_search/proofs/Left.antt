@@ -2,7 +2,7 @@
 use Rattle.std.proofs.Common.{◌≡◌, ℕ, ◌+◌, Bool, true, false, cond, List, [], ◌∷◌, refl, ap, inl, inr, arith}
 use Rattle.judge_object.specs.Call.{Call}
 use Rattle.judge_object.specs.Call.{IsBehind}
-use Rattle.judge_object.specs.Call.{is_answered}
+use Rattle.judge_object.specs.Call.{is_completed}
 use Rattle.judge_object.specs.Orders.{of_client}
 use Rattle.judge_search.specs.Configurations.{Configuration, Goes, without_next, after_call, weight, answered}
 use Rattle.judge_search.specs.Walk.{IsTimed, IsWhole}
@@ -55,21 +55,21 @@ module _ {S O R : Type 0} (X : Rules S O R) where
       answered at.rest ≡ weight c + answered (after_call X at c).rest
   answered_after at c goes = answered_without at.rest c goes.may.first
 
-  -- calls that were never answered do not count
-  pub none_answered : (cs : List (Call O)) → Each (λ c. is_answered c ≡ false) cs → answered cs ≡ 0
+  -- pending calls do not count
+  pub none_answered : (cs : List (Call O)) → Each (λ c. is_completed c ≡ false) cs → answered cs ≡ 0
   none_answered [] h = refl
   none_answered (c ∷ cs) h = let e = none_answered cs h.1 in let w : weight c ≡ 0 = ap (λ b. cond b 1 0) h.0 in
       omega arith
 
-  pub never_answered : (cs : List (Call O)) → answered cs ≡ 0 → Each (λ c. is_answered c ≡ false) cs
+  pub never_answered : (cs : List (Call O)) → answered cs ≡ 0 → Each (λ c. is_completed c ≡ false) cs
   never_answered [] h = tt
   never_answered (c ∷ cs) h = (
-    go (is_answered c) refl,
+    go (is_completed c) refl,
     never_answered cs (let l : weight c + answered cs ≡ 0 = h in
         omega arith),
   )
     where
-      go : (b : Bool) → is_answered c ≡ b → is_answered c ≡ false
+      go : (b : Bool) → is_completed c ≡ b → is_completed c ≡ false
       go true e = let w : weight c ≡ 1 = ap (λ b. cond b 1 0) e in let l : weight c + answered cs ≡ 0 = h in
           absurd (omega arith)
       go false e = e

@@ -1,5 +1,5 @@
 -- Links of calls to their clients' calls before them.
-use Rattle.std.proofs.Common.{◌≡◌, ◌≢◌, ℕ, ◌+◌, ◌<◌, ◌≤◌, ◌==◌, suc, zero, Bool, true, false, is_some}
+use Rattle.std.proofs.Common.{◌≡◌, ◌≢◌, ℕ, ◌+◌, ◌<◌, ◌≤◌, ◌==◌, suc, zero, Bool, true, false}
 use Rattle.std.proofs.Common.{Some, List, [], ◌∷◌, ◌++◌, length, take, get_or, refl, sym, ap, ◌∙◌, subst, ◌-◌}
 use Rattle.std.proofs.Common.{inl, inr, arith}
 use Rattle.std.specs.List.{list_any}
@@ -11,7 +11,7 @@ use Rattle.std.proofs.lemmas.Bool.{cases_lt}
 use Rattle.judge_object.specs.Call.{Call}
 use Rattle.judge_object.specs.Rules.{Rules}
 use Rattle.judge_object.specs.declared.line.Line.{Line}
-use Rattle.judge_search.specs.Calls.{calls_of, are_sorted, rest_of}
+use Rattle.judge_search.specs.Calls.{calls_of, has_ended, are_sorted, rest_of}
 use Rattle.judge_search.specs.Links.{link_or, ArePartedAt, IsLastOf, IsLink, AreLinked}
 use Rattle.judge_search.proofs.Each.{test}
 use Rattle.judge_search.proofs.Tries.{at}
@@ -133,17 +133,17 @@ module _ {O : Type 0} where
 
   -- from a pending call on all are pending
   pub parted_at : (lines : List (Line O)) (place : ℕ) (line : Line O) → are_sorted lines ≡ true → place < length lines →
-      line ≡ get_or lines place line → is_some line.reply ≡ false
-      → ((j : ℕ) (d : Line O) → j < place → is_some (get_or lines j d).reply ≡ true) → ArePartedAt lines place
+      line ≡ get_or lines place line → has_ended line ≡ false
+      → ((j : ℕ) (d : Line O) → j < place → has_ended (get_or lines j d) ≡ true) → ArePartedAt lines place
   parted_at lines place line s l e none before = record {
     within = omega arith;
     before = before;
     after = λ j d m k. never lines place j d (sorted_of lines s) m k
-        (ap (λ (x : Line O). is_some x.reply) (same_default lines place d line l ∙ sym e) ∙ none);
+        (ap has_ended (same_default lines place d line l ∙ sym e) ∙ none);
   }
     where
       never : (ls : List (Line O)) (p j : ℕ) (d : Line O) → AreSorted ls → p ≤ j → j < length ls →
-          is_some (get_or ls p d).reply ≡ false → is_some (get_or ls j d).reply ≡ false
+          has_ended (get_or ls p d) ≡ false → has_ended (get_or ls j d) ≡ false
       never [] p j d s m k f = absurd (omega arith)
       never (x ∷ xs) zero zero d s m k f = f
       never (x ∷ xs) zero (suc j) d s m k f = (each_at (Later x) xs j d (omega arith) s.1).never f
@@ -151,7 +151,7 @@ module _ {O : Type 0} where
       never (x ∷ xs) (suc p) (suc j) d s m k f = never xs p j d s.2 (omega arith) (omega arith) f
 
   pub parted_all : (lines : List (Line O)) →
-      ((j : ℕ) (d : Line O) → j < length lines → is_some (get_or lines j d).reply ≡ true) →
+      ((j : ℕ) (d : Line O) → j < length lines → has_ended (get_or lines j d) ≡ true) →
       ArePartedAt lines (length lines)
   parted_all lines h = record {
     within = omega arith;

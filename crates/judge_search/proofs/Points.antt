@@ -1,12 +1,14 @@
 -- Results of the search for a place among the calls of a history.
-use Rattle.std.proofs.Common.{◌≡◌, ◌⊎◌, ℕ, ◌+◌, ◌<◌, ◌≤◌, ◌==◌, ◌||◌, ◌&&◌, suc, zero, Bool, true, false, not, is_some}
+use Rattle.std.proofs.Common.{◌≡◌, ◌⊎◌, ℕ, ◌+◌, ◌<◌, ◌≤◌, ◌==◌, ◌||◌, ◌&&◌, suc, zero, Bool, true, false, not}
 use Rattle.std.proofs.Common.{cond, Option, Some, None, List, [], ◌∷◌, length, take, get_or, refl, sym, ap, ◌∙◌, inl}
-use Rattle.std.proofs.Common.{inr, arith, nat_lt, add-one, ◌-◌, subst}
+use Rattle.std.proofs.Common.{inr, arith, nat_lt, nat_le, add-one, ◌-◌, subst}
 use Rattle.std.specs.List.{list_any}
 use Rattle.std.specs.Prelude.{IfSome, ◌^◌}
 use Rattle.std.proofs.lemmas.List.{length-map}
 use Rattle.std.proofs.lemmas.List.Folds.{list_any-append}
 use Rattle.std.proofs.lemmas.Bool.{cases_lt}
+use Rattle.std.proofs.lemmas.Bool.Decides.{nat_tests}
+use Rattle.judge_object.specs.declared.span.TheConstants.{NEVER}
 use Rattle.judge_object.specs.Call.{Call}
 use Rattle.judge_object.specs.Rules.{is_right, given_text}
 use Rattle.judge_object.specs.declared.line.Line.{Line}
@@ -16,7 +18,7 @@ use Rattle.judge_search.specs.declared.point.Point.{Point}
 use Rattle.judge_search.specs.Marks.{is_made, MarksOneMore}
 use Rattle.judge_search.specs.Point.{made_of, point_views, RunsTo}
 use Rattle.judge_search.specs.Views.{TellsLeft, TellsNext, LedTo}
-use Rattle.judge_search.specs.Calls.{call_of, calls_of, are_sorted, rest_of, can_come, tries_from, IsTry}
+use Rattle.judge_search.specs.Calls.{call_of, calls_of, has_ended, are_sorted, rest_of, can_come, tries_from, IsTry}
 use Rattle.judge_search.specs.Calls.{TellsTry, TellsTryBefore}
 use Rattle.judge_search.proofs.Tries.{at, may_begin, tries_step, tries_none, tries_skip, front_more, of_stands}
 use Rattle.judge_search.proofs.Tries.{stands_of}
@@ -212,7 +214,7 @@ module _ {S O R : Type 0} (X : Rules S O R) where
   pub tries_jump : (made : ℕ → Bool) (lines : List (Line O)) (first : ℕ) (line : Line O) (p n : ℕ) (next : Line O) →
       IsFirstLeft made lines first line → p + n ≤ length lines → next ≡ get_or lines p next
       → ((j : ℕ) (d : Line O) → p ≤ j → j < p + n →
-      is_some (get_or lines j d).reply ≡ is_some (get_or lines p d).reply)
+      has_ended (get_or lines j d) ≡ has_ended (get_or lines p d))
       → line.end < next.soonest → tries_from made (calls_of lines) p ≡ tries_from made (calls_of lines) (p + n)
   tries_jump made lines first line p zero next f l e alike far =
       ap (tries_from made (calls_of lines)) (let z : p ≡ p + zero = omega arith in z)
@@ -280,7 +282,7 @@ module _ {S O R : Type 0} (X : Rules S O R) where
             | inr l ↦ same ∙ h l ∙ (tries_none X) made cs (length cs) (omega arith)
           ]
 
-  -- whether an answered call is left
+  -- whether a completed call is left
   pub tells_all : (made : ℕ → Bool) (cs : List (Call O)) → ((p : ℕ) → p < length cs → made p ≡ true) →
       TellsLeft (answered (rest_of made 0 cs)) true
   tells_all made cs h = (
@@ -291,23 +293,19 @@ module _ {S O R : Type 0} (X : Rules S O R) where
       true_false : true ≡ false → ⊥
       true_false e = cc
 
-  pub tells_first : (made : ℕ → Bool) (lines : List (Line O)) (first : ℕ) (line : Line O) (some : Bool) →
-      IsFirstLeft made lines first line → some ≡ is_some line.reply
-      → TellsLeft (answered (rest_of made 0 (calls_of lines))) (not some)
-  tells_first made lines first line true f e = (
-    (λ x. absurd (false_true x)),
-    (λ x. (some_left X) made lines first line f.within f.is f.below f.left (sym e)),
+  pub tells_first : (made : ℕ → Bool) (lines : List (Line O)) (first : ℕ) (line : Line O) →
+      IsFirstLeft made lines first line → TellsLeft (answered (rest_of made 0 (calls_of lines))) (nat_le NEVER line.end)
+  tells_first made lines first line f = (
+    (λ x. (never_left X) made lines first line (sorted_of lines f.sorted) f.within f.is f.below f.left
+        (is_pending line.end x)),
+    (λ x. (some_left X) made lines first line f.within f.is f.below f.left (is_over line.end x)),
   )
     where
-      false_true : false ≡ true → ⊥
-      false_true e = cc
-  tells_first made lines first line false f e = (
-    (λ x. (never_left X) made lines first line (sorted_of lines f.sorted) f.within f.is f.below f.left (sym e)),
-    (λ x. absurd (true_false x)),
-  )
-    where
-      true_false : true ≡ false → ⊥
-      true_false e = cc
+      is_pending : (e : ℕ) → nat_le NEVER e ≡ true → nat_lt e NEVER ≡ false
+      is_pending e h = grind (arith, nat_tests)
+
+      is_over : (e : ℕ) → nat_le NEVER e ≡ false → nat_lt e NEVER ≡ true
+      is_over e h = grind (arith, nat_tests)
 
   -- what making the call at a place leads to
   pub led_not : (s : S) (lines : List (Line O)) (p : ℕ) (line : Line O) (next : S) (reply : R) → p < length lines →

@@ -12,7 +12,7 @@ use Rattle.std.specs.declared.cmp.Ordering.TheVariants.{Less, Equal, Greater}
 use Rattle.std.proofs.Math.Seq.{take-append_seam}
 use Rattle.std.proofs.lemmas.Bool.Decides.{nat_tests}
 use Rattle.judge_object.specs.declared.line.Line.{Line}
-use Rattle.judge_search.specs.Calls.{call_of, calls_of, are_sorted, is_kind, least_begin, soonest_of}
+use Rattle.judge_search.specs.Calls.{call_of, calls_of, has_ended, are_sorted, is_kind, least_begin, soonest_of}
 use Rattle.judge_search.proofs.Sorted.{EachLine}
 use Rattle.judge_search.proofs.Stable.{Rises, at_once}
 
@@ -54,8 +54,8 @@ module _ {O : Type 0} where
   same_calls [] = refl
   same_calls (l ∷ ls) = ap (λ cs. call_of l ∷ cs) (same_calls ls)
 
-  answers : (a b : Line O) → a.end ≤ b.end → (is_some a.reply || not (is_some b.reply)) ≡ true
-  answers a b l = go (is_some a.reply) (is_some b.reply) a.ended b.ended
+  answers : (a b : Line O) → a.end ≤ b.end → (has_ended a || not (has_ended b)) ≡ true
+  answers a b l = go (nat_lt a.end NEVER) (nat_lt b.end NEVER) refl refl
     where
       go : (x y : Bool) → nat_lt a.end NEVER ≡ x → nat_lt b.end NEVER ≡ y → (x || not y) ≡ true
       go true y e f = refl
@@ -63,21 +63,21 @@ module _ {O : Type 0} where
       go false true e f = absurd (let p : NEVER ≤ a.end = grind (arith, nat_tests) in let q : b.end < NEVER =
           grind (arith, nat_tests) in omega arith)
 
-  own_kind : (x : Line O) → is_kind (is_some x.reply) x ≡ true
-  own_kind x = go (is_some x.reply)
+  own_kind : (x : Line O) → is_kind (has_ended x) x ≡ true
+  own_kind x = go (has_ended x)
     where
       go : (b : Bool) → cond b b (not b) ≡ true
       go true = refl
       go false = refl
 
-  own_least : (x : Line O) (xs : List (Line O)) → least_begin (is_some x.reply) (x ∷ xs) ≤ x.begin
-  own_least x xs = own_begin (is_kind (is_some x.reply) x) x.begin (least_begin (is_some x.reply) xs) (own_kind x)
+  own_least : (x : Line O) (xs : List (Line O)) → least_begin (has_ended x) (x ∷ xs) ≤ x.begin
+  own_least x xs = own_begin (is_kind (has_ended x) x) x.begin (least_begin (has_ended x) xs) (own_kind x)
 
   -- where both are completed, or both pending, the later line names no earlier begin
-  names_later : (a b : Line O) (ls : List (Line O)) → (is_some a.reply || not (is_some b.reply)) ≡ true →
-      (nat_le (least_begin (is_some a.reply) (a ∷ (b ∷ ls))) (least_begin (is_some b.reply) (b ∷ ls))
-      || is_some a.reply && not (is_some b.reply)) ≡ true
-  names_later a b ls h = go (is_some a.reply) (is_some b.reply) h
+  names_later : (a b : Line O) (ls : List (Line O)) → (has_ended a || not (has_ended b)) ≡ true →
+      (nat_le (least_begin (has_ended a) (a ∷ (b ∷ ls))) (least_begin (has_ended b) (b ∷ ls))
+      || has_ended a && not (has_ended b)) ≡ true
+  names_later a b ls h = go (has_ended a) (has_ended b) h
       (λ k. le_true (least_begin k (a ∷ (b ∷ ls))) (least_begin k (b ∷ ls))
       (less_begin (is_kind k a) a.begin (least_begin k (b ∷ ls))))
     where
@@ -96,22 +96,22 @@ module _ {O : Type 0} where
   -- so the lines are sorted
   pub sorted_soonest : (lines : List (Line O)) → Rises lines → are_sorted (soonest_of lines) ≡ true
   sorted_soonest [] h = refl
-  sorted_soonest (a ∷ []) h = le_true (least_begin (is_some a.reply) (a ∷ [])) a.begin (own_least a [])
+  sorted_soonest (a ∷ []) h = le_true (least_begin (has_ended a) (a ∷ [])) a.begin (own_least a [])
   sorted_soonest (a ∷ (b ∷ ls)) h =
-      let s = least_begin (is_some a.reply) (a ∷ (b ∷ ls)) in
-      let t = least_begin (is_some b.reply) (b ∷ ls) in
+      let s = least_begin (has_ended a) (a ∷ (b ∷ ls)) in
+      let t = least_begin (has_ended b) (b ∷ ls) in
       let kinds = answers a b h.0.0 in
       let begins : nat_le s a.begin ≡ true = le_true s a.begin (own_least a (b ∷ ls)) in
       let ends : nat_le a.end b.end ≡ true = le_true a.end b.end h.0.0 in
-      true_both (nat_le s a.begin && (nat_le a.end b.end && (is_some a.reply || not (is_some b.reply))
-      && (nat_le s t || is_some a.reply && not (is_some b.reply))))
+      true_both (nat_le s a.begin && (nat_le a.end b.end && (has_ended a || not (has_ended b))
+      && (nat_le s t || has_ended a && not (has_ended b))))
       (are_sorted (soonest_of (b ∷ ls)))
-      (true_both (nat_le s a.begin) (nat_le a.end b.end && (is_some a.reply || not (is_some b.reply))
-      && (nat_le s t || is_some a.reply && not (is_some b.reply)))
+      (true_both (nat_le s a.begin) (nat_le a.end b.end && (has_ended a || not (has_ended b))
+      && (nat_le s t || has_ended a && not (has_ended b)))
       begins
-      (true_both (nat_le a.end b.end && (is_some a.reply || not (is_some b.reply)))
-      (nat_le s t || is_some a.reply && not (is_some b.reply))
-      (true_both (nat_le a.end b.end) (is_some a.reply || not (is_some b.reply)) ends kinds)
+      (true_both (nat_le a.end b.end && (has_ended a || not (has_ended b)))
+      (nat_le s t || has_ended a && not (has_ended b))
+      (true_both (nat_le a.end b.end) (has_ended a || not (has_ended b)) ends kinds)
       (names_later a b ls kinds)))
       (sorted_soonest (b ∷ ls) h.1)
 
@@ -123,14 +123,14 @@ module _ {O : Type 0} where
   keep_get (x ∷ xs) (suc p) d l = keep_get xs p d (omega arith)
 
   pub keep_more : (lines : List (Line O)) (p : ℕ) (x d : Line O) (s : ℕ) → p < length lines → x ≡ get_or lines p d →
-      s ≡ least_begin (is_some x.reply) (drop p lines)
+      s ≡ least_begin (has_ended x) (drop p lines)
       → set (take (suc p) lines ++ soonest_of (drop (suc p) lines)) p
       (record x { soonest = s }) ≡ take p lines ++ soonest_of (drop p lines)
   keep_more [] p x d s l e f = absurd (omega arith)
   keep_more (y ∷ ys) zero x d s l e f =
       ap (λ (z : Line O). (record z { soonest = s }) ∷ soonest_of ys) e
       ∙ ap (λ n. (record y { soonest = n }) ∷ soonest_of ys)
-      (f ∙ ap (λ (z : Line O). least_begin (is_some z.reply) (y ∷ ys)) e)
+      (f ∙ ap (λ (z : Line O). least_begin (has_ended z) (y ∷ ys)) e)
   keep_more (y ∷ ys) (suc p) x d s l e f = ap (λ l. y ∷ l) (keep_more ys p x d s (omega arith) e f)
 
   pub least_here : (k : Bool) (lines : List (Line O)) (p : ℕ) (x d : Line O) → p < length lines → x ≡ get_or lines p d
@@ -171,9 +171,9 @@ module _ {O : Type 0} where
   pub keep_step : (init now : List (Line O)) (back completed pending more_c more_p s p : ℕ) (x d : Line O) →
       Keeps init now back completed pending →
       back < length init → p ≡ length now - 1 - back → x ≡ get_or now p d
-      → more_c ≡ cond (is_some x.reply && nat_lt x.begin completed) x.begin completed
-      → more_p ≡ cond (not (is_some x.reply) && nat_lt x.begin pending) x.begin pending
-      → s ≡ cond (is_some x.reply) more_c more_p →
+      → more_c ≡ cond (has_ended x && nat_lt x.begin completed) x.begin completed
+      → more_p ≡ cond (not (has_ended x) && nat_lt x.begin pending) x.begin pending
+      → s ≡ cond (has_ended x) more_c more_p →
       Keeps init (set now p (record x { soonest = s })) (back + 1) more_c more_p
   keep_step init now back completed pending more_c more_p s p x d k l e f nc np sn =
       let long : length now ≡ length init = ap length k.lines ∙ length_kept init (length init - back) in
@@ -185,15 +185,15 @@ module _ {O : Type 0} where
       let whole : now ≡ take (suc p) init ++ soonest_of (drop (suc p) init) =
       k.lines ∙ ap (λ m. take m init ++ soonest_of (drop m init)) suc_is in
       let least_c : more_c ≡ least_begin true (drop p init) =
-      nc ∙ ap (λ m. cond (is_some x.reply && nat_lt x.begin m) x.begin m)
+      nc ∙ ap (λ m. cond (has_ended x && nat_lt x.begin m) x.begin m)
       (k.completed_is ∙ ap (λ m. least_begin true (drop m init)) suc_is)
       ∙ sym (least_here true init p x d within got) in
       let least_p : more_p ≡ least_begin false (drop p init) =
-      np ∙ ap (λ m. cond (not (is_some x.reply) && nat_lt x.begin m) x.begin m)
+      np ∙ ap (λ m. cond (not (has_ended x) && nat_lt x.begin m) x.begin m)
       (k.pending_is ∙ ap (λ m. least_begin false (drop m init)) suc_is)
       ∙ sym (least_here false init p x d within got) in
-      let own : s ≡ least_begin (is_some x.reply) (drop p init) =
-      sn ∙ chosen (is_some x.reply) more_c more_p (drop p init) least_c least_p in
+      let own : s ≡ least_begin (has_ended x) (drop p init) =
+      sn ∙ chosen (has_ended x) more_c more_p (drop p init) least_c least_p in
       record {
         lines = ap (λ l. set l p (record x { soonest = s })) whole ∙ keep_more init p x d s within got own
             ∙ ap (λ m. take m init ++ soonest_of (drop m init)) (sym p_is);
@@ -249,7 +249,7 @@ module _ {O : Type 0} where
   same_default (x ∷ xs) (suc i) d e l = same_default xs i d e (omega arith)
 
   -- a line that says so is the same whatever shows what is known of it
-  pub keep_any : (x : Line O) (s : ℕ) (ended : nat_lt x.end NEVER ≡ is_some x.reply)
+  pub keep_any : (x : Line O) (s : ℕ) (ended : (is_some x.reply || nat_le NEVER x.end) ≡ true)
       → ◌≡◌ {A = Line O} (record {
         number = x.number;
         text = x.text;
@@ -262,7 +262,7 @@ module _ {O : Type 0} where
         ended = ended;
       }) (record x { soonest = s })
   keep_any x s ended =
-      let two : IsProp (nat_lt x.end NEVER ≡ is_some x.reply) = hlevel props in
+      let two : IsProp ((is_some x.reply || nat_le NEVER x.end) ≡ true) = hlevel props in
       ap (λ e. record {
         number = x.number;
         text = x.text;

@@ -1,18 +1,16 @@
 -- What the order in which calls ended says of those that are left.
-use Rattle.std.proofs.Common.{◌≡◌, ℕ, ◌+◌, ◌<◌, ◌≤◌, ◌||◌, ◌&&◌, suc, zero, Bool, true, false, not, is_some, Option}
-use Rattle.std.proofs.Common.{Some, None, cond, List, [], ◌∷◌, ◌++◌, length, drop, get_or, refl, sym, ap, ◌∙◌}
+use Rattle.std.proofs.Common.{◌≡◌, ℕ, ◌+◌, ◌<◌, ◌≤◌, ◌||◌, ◌&&◌, suc, zero, Bool, true, false, not}
+use Rattle.std.proofs.Common.{cond, List, [], ◌∷◌, ◌++◌, length, drop, get_or, refl, sym, ap, ◌∙◌}
 use Rattle.std.proofs.Common.{subst, arith, nat_lt, nat_le, drop-cons}
 use Rattle.std.specs.Prelude.{⊤}
 use Rattle.std.specs.List.{list_any}
 use Rattle.std.proofs.lemmas.Bool.Decides.{nat_tests}
-use Rattle.std.specs.Option.{option_map}
-use Rattle.std.specs.Global.{Vec}
 use Rattle.judge_object.specs.Call.{Call}
-use Rattle.judge_object.specs.Call.{is_answered}
+use Rattle.judge_object.specs.Call.{is_completed}
 use Rattle.judge_search.proofs.Left.{none_answered}
 use Rattle.judge_object.specs.declared.line.Line.{Line}
 use Rattle.judge_search.specs.Configurations.{weight, answered}
-use Rattle.judge_search.specs.Calls.{call_of, calls_of, follows, are_sorted, no_call, rest_of}
+use Rattle.judge_search.specs.Calls.{call_of, calls_of, has_ended, follows, are_sorted, no_call, rest_of}
 use Rattle.judge_search.proofs.Each.{Each}
 use Rattle.judge_search.proofs.Tries.{at, rest_split, front_made}
 use Rattle.judge_object.specs.Rules.{Rules}
@@ -23,6 +21,12 @@ both_true false b h = cc
 
 low : (x y : ℕ) → nat_le x y ≡ true → x ≤ y
 low x y h = grind (arith, nat_tests)
+
+pub early : (x y : ℕ) → y ≤ x → nat_lt x y ≡ false
+early x y h = grind (arith, nat_tests)
+
+pub late : (x y : ℕ) → x < y → nat_lt x y ≡ true
+late x y h = grind (arith, nat_tests)
 
 -- a line between two of one kind is of that kind too
 between : (a b l : Bool) → (a ≡ false → b ≡ false) → (b ≡ false → l ≡ false) → l ≡ a → (l ≡ b) × (b ≡ a)
@@ -55,8 +59,8 @@ module _ {O : Type 0} where
   -- a line after another
   pub record Later (line later : Line O) : Type 0 where
     pub ends : line.end ≤ later.end
-    pub begins : is_some later.reply ≡ is_some line.reply → line.soonest ≤ later.begin
-    pub never : is_some line.reply ≡ false → is_some later.reply ≡ false
+    pub begins : has_ended later ≡ has_ended line → line.soonest ≤ later.begin
+    pub never : has_ended line ≡ false → has_ended later ≡ false
 
   -- none of the lines ends before those in front of it, or begins before they say
   abbrev pub AreSorted : List (Line O) → Type 0
@@ -65,15 +69,15 @@ module _ {O : Type 0} where
       (line.soonest ≤ line.begin) × EachLine (Later line) lines × AreSorted lines
 
   further : (a b : Line O) (ls : List (Line O)) → a.end ≤ b.end →
-      (is_some b.reply ≡ is_some a.reply → a.soonest ≤ b.soonest) →
-      (is_some a.reply ≡ false → is_some b.reply ≡ false)
+      (has_ended b ≡ has_ended a → a.soonest ≤ b.soonest) →
+      (has_ended a ≡ false → has_ended b ≡ false)
       → EachLine (Later b) ls → EachLine (Later a) ls
   further a b [] x y z h = tt
   further a b (l ∷ ls) x y z h = (
     record {
       ends = let p : b.end ≤ l.end = h.0.ends in omega arith;
       begins = λ e.
-          let both = between (is_some a.reply) (is_some b.reply) (is_some l.reply) z h.0.never e in
+          let both = between (has_ended a) (has_ended b) (has_ended l) z h.0.never e in
           let q : b.soonest ≤ l.begin = h.0.begins both.0 in
           let r : a.soonest ≤ b.soonest = y both.1 in omega arith;
       never = λ e. h.0.never (z e);
@@ -81,10 +85,10 @@ module _ {O : Type 0} where
     further a b ls x y z h.1,
   )
 
-  not_more : (line next : Line O) → (is_some line.reply || not (is_some next.reply)) ≡ true →
-      is_some line.reply ≡ false →
-      is_some next.reply ≡ false
-  not_more line next h e = go (is_some next.reply) (subst (λ b. (b || not (is_some next.reply)) ≡ true) e h)
+  not_more : (line next : Line O) → (has_ended line || not (has_ended next)) ≡ true →
+      has_ended line ≡ false →
+      has_ended next ≡ false
+  not_more line next h e = go (has_ended next) (subst (λ b. (b || not (has_ended next)) ≡ true) e h)
     where
       go : (b : Bool) → not b ≡ true → b ≡ false
       go true h = cc
@@ -96,11 +100,11 @@ module _ {O : Type 0} where
   sorted_of (line ∷ (next ∷ lines)) h =
       let one = both_true (nat_le line.soonest line.begin && follows line next) (are_sorted (next ∷ lines)) h in
       let two = both_true (nat_le line.soonest line.begin) (follows line next) one.0 in
-      let three = both_true (nat_le line.end next.end && (is_some line.reply || not (is_some next.reply)))
-      (nat_le line.soonest next.soonest || is_some line.reply && not (is_some next.reply)) two.1 in
-      let four = both_true (nat_le line.end next.end) (is_some line.reply || not (is_some next.reply)) three.0 in
+      let three = both_true (nat_le line.end next.end && (has_ended line || not (has_ended next)))
+      (nat_le line.soonest next.soonest || has_ended line && not (has_ended next)) two.1 in
+      let four = both_true (nat_le line.end next.end) (has_ended line || not (has_ended next)) three.0 in
       let end = low line.end next.end four.0 in
-      let soonest = no_earlier (is_some line.reply) (is_some next.reply) line.soonest next.soonest three.1 in
+      let soonest = no_earlier (has_ended line) (has_ended next) line.soonest next.soonest three.1 in
       let rest = sorted_of (next ∷ lines) one.1 in (
         low line.soonest line.begin two.0,
         (
@@ -159,7 +163,7 @@ module _ {O : Type 0} where
 
   -- and none of its kind began before it says
   pub begin_later : (lines : List (Line O)) (p j : ℕ) (d : Line O) → AreSorted lines → p ≤ j → j < length lines →
-      is_some (get_or lines j d).reply ≡ is_some (get_or lines p d).reply →
+      has_ended (get_or lines j d) ≡ has_ended (get_or lines p d) →
       (get_or lines p d).soonest ≤ (get_or lines j d).begin
   begin_later [] p j d s m l e = absurd (omega arith)
   begin_later (x ∷ xs) zero zero d s m l e = s.0
@@ -192,12 +196,6 @@ module _ {S O R : Type 0} (X : Rules S O R) where
           (cond b (rest_of made (suc i) cs) (c ∷ rest_of made (suc i) cs))
       go true g = g
       go false g = (h.0, g)
-
-  early : (x y : ℕ) → y ≤ x → nat_lt x y ≡ false
-  early x y h = grind (arith, nat_tests)
-
-  late : (x y : ℕ) → x < y → nat_lt x y ≡ true
-  late x y h = grind (arith, nat_tests)
 
   none_ended : (e b : ℕ) → b ≤ e → (cs : List (Call O)) → Each (λ c. e ≤ c.end) cs →
       list_any (λ (o : Call O). nat_lt o.end b) cs ≡ false
@@ -247,46 +245,36 @@ module _ {S O R : Type 0} (X : Rules S O R) where
       ap (λ b. cond b (rest_of made (suc i) cs) (c ∷ rest_of made (suc i) cs)) (h i (omega arith))
       ∙ all_made made (suc i) cs (λ j l. h j (omega arith))
 
-  -- what is left has no answered call, where the first of it has none
+  -- what is left has no completed call, where the first of it has none
   pub never_left : (made : ℕ → Bool) (lines : List (Line O)) (p : ℕ) (line : Line O) → AreSorted lines →
       p < length lines →
       line ≡ get_or lines p line
-      → ((j : ℕ) → j < p → made j ≡ true) → made p ≡ false → is_some line.reply ≡ false →
+      → ((j : ℕ) → j < p → made j ≡ true) → made p ≡ false → has_ended line ≡ false →
       answered (rest_of made 0 (calls_of lines)) ≡ 0
   never_left made lines p line s l e below left none =
       let cs = calls_of lines in
       let long : p < length cs = long_calls lines p l in
-      let never = subst (Each (λ c. is_answered c ≡ false)) (drop-cons cs p (no_call X) long)
+      let never = subst (Each (λ c. is_completed c ≡ false)) (drop-cons cs p (no_call X) long)
       (go_never (subst AreSorted (here lines p line l e) (sorted_drop lines p s))) in
       ap answered (first_rest made cs p long below left)
       ∙ (none_answered X) (at X cs p ∷ rest_of made (suc p) (drop (suc p) cs)) (
         never.0,
-        each_rest (λ c. is_answered c ≡ false) made (suc p) (drop (suc p) cs) never.1,
+        each_rest (λ c. is_completed c ≡ false) made (suc p) (drop (suc p) cs) never.1,
       )
     where
-      some_map : (r : Option (Vec ℕ)) → is_some r ≡ false → is_some
-          (option_map (λ (text : Vec ℕ). text.items) r) ≡ false
-      some_map None e = refl
-      some_map (Some v) e = e
-
-      go_never : AreSorted (line ∷ drop (suc p) lines) → Each (λ c. is_answered c ≡ false) (drop p (calls_of lines))
+      go_never : AreSorted (line ∷ drop (suc p) lines) → Each (λ c. is_completed c ≡ false) (drop p (calls_of lines))
       go_never h =
-          subst (Each (λ c. is_answered c ≡ false)) (sym (drop_map lines p))
-          (subst (λ ls. Each (λ c. is_answered c ≡ false) (calls_of ls)) (sym (here lines p line l e)) (
-            some_map line.reply none,
-            each_lines (Later line) (λ c. is_answered c ≡ false)
-                (λ later f. some_map later.reply (f.never none)) (drop (suc p) lines) h.1,
+          subst (Each (λ c. is_completed c ≡ false)) (sym (drop_map lines p))
+          (subst (λ ls. Each (λ c. is_completed c ≡ false) (calls_of ls)) (sym (here lines p line l e)) (
+            none,
+            each_lines (Later line) (λ c. is_completed c ≡ false) (λ later f. f.never none) (drop (suc p) lines) h.1,
           ))
 
   pub some_left : (made : ℕ → Bool) (lines : List (Line O)) (p : ℕ) (line : Line O) → p < length lines →
       line ≡ get_or lines p line → ((j : ℕ) → j < p → made j ≡ true) → made p ≡ false
-      → is_some line.reply ≡ true → 0 < answered (rest_of made 0 (calls_of lines))
+      → has_ended line ≡ true → 0 < answered (rest_of made 0 (calls_of lines))
   some_left made lines p line l e below left some =
       let cs = calls_of lines in
       subst (λ r. 0 < answered r) (sym (first_rest made cs p (long_calls lines p l) below left))
       (let w : weight (at X cs p) ≡ 1 = ap weight (call_here lines p line l e) ∙ ap (λ b. cond b 1 0)
-      (some_map line.reply some) in omega arith)
-    where
-      some_map : (r : Option (Vec ℕ)) → is_some r ≡ true → is_some (option_map (λ (text : Vec ℕ). text.items) r) ≡ true
-      some_map None e = e
-      some_map (Some v) e = refl
+      some in omega arith)

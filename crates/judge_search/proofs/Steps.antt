@@ -241,7 +241,7 @@ module _ {S O R : Type 0} (X : Rules S O R) where
     some = some;
   }
 
-  -- a path that leaves no answered call is an order
+  -- a path that leaves no completed call is an order
   pub walk_found : (start at : Configuration S O) (most placed : ℕ) (tries : List (Call O))
       (path : List (PathPlace S O))
       (known : List (Configuration S O)) (c : Call O)

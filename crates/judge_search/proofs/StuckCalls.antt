@@ -3,7 +3,7 @@ use Rattle.std.proofs.Common.{◌≡◌, ℕ, ◌+◌, Bool, true, false, cond, 
 use Rattle.std.proofs.Common.{ap, ◌∙◌, subst, append_assoc}
 use Rattle.judge_object.specs.Call.{Call}
 use Rattle.judge_search.specs.declared.stuck.Stuck.{Stuck}
-use Rattle.judge_object.specs.Call.{is_answered}
+use Rattle.judge_object.specs.Call.{is_completed}
 use Rattle.judge_search.specs.Calls.{can_come, tries_from, IsTry}
 use Rattle.judge_search.specs.Stuck.{told, with_reply, expected_from, AreStuck}
 use Rattle.std.specs.Prelude.{All, ◌<◌}
@@ -35,18 +35,18 @@ module _ {S O R : Type 0} (X : Rules S O R) where
   none_more (x ∷ xs) = ap (λ l. x ∷ l) (none_more xs)
 
   next_some : (made : ℕ → Bool) (cs : List (Call O)) (from p : ℕ) → (IsTry X) made cs from p → (b : Bool) →
-      is_answered (at X cs p) ≡ b
-      → filter is_answered (tries_from made cs from) ≡ cond b
-      (at X cs p ∷ filter is_answered (tries_from made cs (p + 1)))
-      (filter is_answered (tries_from made cs (p + 1)))
+      is_completed (at X cs p) ≡ b
+      → filter is_completed (tries_from made cs from) ≡ cond b
+      (at X cs p ∷ filter is_completed (tries_from made cs (p + 1)))
+      (filter is_completed (tries_from made cs (p + 1)))
   next_some made cs from p t b e =
-      ap (filter is_answered) t.is
-      ∙ ap (λ x. cond x (at X cs p ∷ filter is_answered (tries_from made cs (p + 1)))
-      (filter is_answered (tries_from made cs (p + 1)))) e
+      ap (filter is_completed) t.is
+      ∙ ap (λ x. cond x (at X cs p ∷ filter is_completed (tries_from made cs (p + 1)))
+      (filter is_completed (tries_from made cs (p + 1)))) e
 
-  -- an answered call more
+  -- a completed call more
   pub found_more : (s : S) (made : ℕ → Bool) (cs : List (Call O)) (found : List (Stuck R)) (from p : ℕ) (x : Stuck R) →
-      (IsTry X) made cs from p → is_answered (at X cs p) ≡ true
+      (IsTry X) made cs from p → is_completed (at X cs p) ≡ true
       → x.place ≡ p → x.expected ≡ (X.run s (at X cs p).op).1 → AreFound s made cs found from →
       AreFound s made cs (found ++ x ∷ []) (p + 1)
   found_more s made cs found from p x t some e r h = record {
@@ -64,9 +64,9 @@ module _ {S O R : Type 0} (X : Rules S O R) where
         (All-nil (λ (y : Stuck R). y.place < length cs)));
   }
 
-  -- or one that was never answered
+  -- or a pending one
   pub found_less : (s : S) (made : ℕ → Bool) (cs : List (Call O)) (found : List (Stuck R)) (from p : ℕ) →
-      (IsTry X) made cs from p → is_answered (at X cs p) ≡ false
+      (IsTry X) made cs from p → is_completed (at X cs p) ≡ false
       → AreFound s made cs found from → AreFound s made cs found (p + 1)
   found_less s made cs found from p t none h = record {
     told_are = ap (λ l. map (told X cs) found ++ map (with_reply X s) l) (sym (next_some made cs from p t false none)) ∙
@@ -81,7 +81,7 @@ module _ {S O R : Type 0} (X : Rules S O R) where
       → (AreStuck X) s made cs found
   found_all s made cs found from e h = record {
     told_are = sym (none_more (map (told X cs) found))
-        ∙ ap (λ l. map (told X cs) found ++ map (with_reply X s) (filter is_answered l)) (sym e)
+        ∙ ap (λ l. map (told X cs) found ++ map (with_reply X s) (filter is_completed l)) (sym e)
         ∙ h.told_are;
     can = h.can;
     within = h.within;

@@ -479,7 +479,7 @@ module _ {S O R : Type 0} (X : Rules S O R) where
     places = subst (λ fs. AreMadeBy views (views.made world) [] fs world) (sym p) (made_none views world);
   }
 
-  -- where no answered call is left, the order is none
+  -- where no completed call is left, the order is none
   pub no_calls : (start : Configuration S O) → TellsLeft (answered start.rest) true → (Completes X) start []
   no_calls start l = record { to = start; reaches = refl; done = l.0 refl }
 

@@ -1,10 +1,10 @@
 -- The calls of a history as they are kept, in the order in which they ended.
-use Rattle.std.specs.Prelude.{◌≡◌, ◌<◌, ◌≤◌, ◌+◌, ◌-◌, ◌^◌, ◌==◌, ◌&&◌, ◌||◌, ℕ, suc, Bool, true, Option, is_some, Some, None, List, [], ◌∷◌, ◌++◌}
+use Rattle.std.specs.Prelude.{◌≡◌, ◌<◌, ◌≤◌, ◌+◌, ◌-◌, ◌^◌, ◌==◌, ◌&&◌, ◌||◌, ℕ, suc, Bool, true, Option, Some, None, List, [], ◌∷◌, ◌++◌}
 use Rattle.std.specs.Prelude.{map, not, take, drop, get_or, length, nat_lt, nat_le, if◌then◌else◌, false}
 use Rattle.std.specs.List.{list_any}
 use Rattle.judge_object.specs.declared.line.Line.{Line}
 use Rattle.judge_object.specs.Rules.{Rules, given_text}
-use Rattle.judge_object.specs.Call.{Call}
+use Rattle.judge_object.specs.Call.{Call, is_completed}
 
 module _ {O : Type 0} where
   -- the call that a line is
@@ -20,13 +20,17 @@ module _ {O : Type 0} where
   abbrev pub calls_of : List (Line O) → List (Call O)
   calls_of lines = map call_of lines
 
+  -- the call of a line is completed
+  abbrev pub has_ended : Line O → Bool
+  has_ended line = is_completed (call_of line)
+
   -- a line may come after another: it does not end before that one, and a completed call does not
   -- come after a pending one. Where both are completed, or both pending, it names no earlier begin
   abbrev pub follows : Line O → Line O → Bool
   follows line next =
       nat_le line.end next.end
-      && (is_some line.reply || not (is_some next.reply))
-      && (nat_le line.soonest next.soonest || is_some line.reply && not (is_some next.reply))
+      && (has_ended line || not (has_ended next))
+      && (nat_le line.soonest next.soonest || has_ended line && not (has_ended next))
 
   -- the lines are in the order in which they ended, and each names no later begin than there is
   abbrev pub are_sorted : List (Line O) → Bool
@@ -37,7 +41,7 @@ module _ {O : Type 0} where
 
   -- a line is that of a completed call, or that of a pending one
   abbrev pub is_kind : Bool → Line O → Bool
-  is_kind completed line = if completed then is_some line.reply else not (is_some line.reply)
+  is_kind completed line = if completed then has_ended line else not (has_ended line)
 
   -- the least moment at which one of these begins that is completed, or one that is pending; or the
   -- greatest moment
@@ -52,7 +56,7 @@ module _ {O : Type 0} where
   abbrev pub soonest_of : List (Line O) → List (Line O)
   soonest_of [] = []
   soonest_of (line ∷ lines) =
-      record line { soonest = least_begin (is_some line.reply) (line ∷ lines) } ∷ soonest_of lines
+      record line { soonest = least_begin (has_ended line) (line ∷ lines) } ∷ soonest_of lines
 
   -- of these calls, the first of which is at a place, those that have no place in the order
   abbrev pub rest_of : (ℕ → Bool) → ℕ → List (Call O) → List (Call O)
@@ -85,7 +89,7 @@ module _ {O : Type 0} where
   -- lines between two places are all those of completed calls, or all those of pending ones
   abbrev pub AreAlike : List (Line O) → ℕ → ℕ → Type 0
   AreAlike lines from to = (i j : ℕ) (d : Line O) → from ≤ i → i ≤ j → j < to →
-      is_some (get_or lines i d).reply ≡ is_some (get_or lines j d).reply
+      has_ended (get_or lines i d) ≡ has_ended (get_or lines j d)
 
 -- the first of `count` calls that has no place in the order is there
 pub record IsFirstOf (made : ℕ → Bool) (count first : ℕ) : Type 0 where

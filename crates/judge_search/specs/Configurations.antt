@@ -1,7 +1,7 @@
 -- Configurations of a search for an order, and the calls that may come next.
 use Rattle.std.specs.Prelude.{◌≡◌, ◌+◌, ◌≤◌, ◌==◌, ℕ, Bool, true, List, [], ◌∷◌, if◌then◌else◌}
 use Rattle.judge_object.specs.Rules.{Rules, is_right}
-use Rattle.judge_object.specs.Call.{Call, EachCall, is_answered}
+use Rattle.judge_object.specs.Call.{Call, EachCall, is_completed}
 use Rattle.judge_object.specs.Orders.{of_client}
 
 -- the calls that have no place in the order yet, and the state that those with a place leave
@@ -31,17 +31,17 @@ module _ {O : Type 0} where
   without_next client (call ∷ rest) =
       if call.client == client then rest else call ∷ without_next client rest
 
-  -- what a call is counted as: those that were never answered do not count
+  -- what a call is counted as: pending calls do not count
   abbrev pub weight : Call O → ℕ
-  weight call = if is_answered call then 1 else 0
+  weight call = if is_completed call then 1 else 0
 
-  -- how many answered calls there are
+  -- the number of completed calls
   abbrev pub answered : List (Call O) → ℕ
   answered [] = 0
   answered (call ∷ calls) = weight call + answered calls
 
 module _ {S O R : Type 0} (X : Rules S O R) where
-  -- made in this state, the call gives its reply; one that was never answered gives any
+  -- made in this state, the call gives its reply; a pending call whose reply is unknown gives any
   abbrev pub fits : S → Call O → Bool
   fits s call = is_right X call.reply (X.run s call.op).1
 
@@ -62,12 +62,12 @@ module _ {S O R : Type 0} (X : Rules S O R) where
   CallsReach a [] b = a ≡ b
   CallsReach a (call ∷ calls) b = Goes a call × CallsReach (after_call a call) calls b
 
-  -- of `total` answered calls in all, at most `most` ever have a place from here on
+  -- of `total` completed calls in all, at most `most` ever have a place from here on
   abbrev pub PlacesAtMost : ℕ → ℕ → Configuration S O → Type 0
   PlacesAtMost total most at = (calls : List (Call O)) (b : Configuration S O) →
       CallsReach at calls b → total ≤ most + answered b.rest
 
-  -- from the start these calls lead here, where `most` answered ones have a place and some have
+  -- from the start these calls lead here, where `most` completed ones have a place and some have
   -- none
   pub record Deepest (start : Configuration S O) (most : ℕ) (at : Configuration S O) : Type 0 where
     pub calls : List (Call O)

@@ -45,8 +45,8 @@ module _ {S O R : Type 0} (X : Rules S O R) where
     pub is : IsLinearizedBy s calls places
     pub turns : KeepTurns calls [] places
 
-  -- no order of the calls is one. At most `most` answered calls, one after the other, may come next
-  -- and give their replies; here that many did
+  -- no order of the calls is one. At most `most` completed calls, one after the other, may come
+  -- next and give their replies; here that many did
   pub record HasNoOrder (s : S) (calls : List (Call O)) (most : ℕ) (at : Configuration S O) : Type 0
     where
       pub none : IsLinearizable X s calls → ⊥

@@ -1,6 +1,7 @@
 -- The completed calls come first, and each call is linked to its client's call before it.
-use Rattle.std.specs.Prelude.{◌≡◌, ◌≢◌, ◌<◌, ◌≤◌, ℕ, suc, true, false, Option, is_some, Some, None, List, length, get_or}
+use Rattle.std.specs.Prelude.{◌≡◌, ◌≢◌, ◌<◌, ◌≤◌, ℕ, suc, true, false, Option, Some, None, List, length, get_or}
 use Rattle.judge_object.specs.declared.line.Line.{Line}
+use Rattle.judge_search.specs.Calls.{has_ended}
 
 -- the number that is given, or 0
 abbrev pub link_or : Option ℕ → ℕ
@@ -12,9 +13,9 @@ module _ {O : Type 0} where
   pub record ArePartedAt (lines : List (Line O)) (completed : ℕ) : Type 0 where
     pub within : completed ≤ length lines
     pub before : (place : ℕ) (d : Line O) → place < completed →
-        is_some (get_or lines place d).reply ≡ true
+        has_ended (get_or lines place d) ≡ true
     pub after : (place : ℕ) (d : Line O) → completed ≤ place → place < length lines →
-        is_some (get_or lines place d).reply ≡ false
+        has_ended (get_or lines place d) ≡ false
 
   -- `link` is the place after that of this client's last line before a place, or 0 if there is none
   pub record IsLastOf (lines : List (Line O)) (client place link : ℕ) : Type 0 where

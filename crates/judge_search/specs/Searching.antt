@@ -6,7 +6,7 @@ use Rattle.judge_object.specs.Call.{Call}
 use Rattle.judge_search.specs.Configurations.{Configuration, MayBegin, CallsReach, fits, after_call, weight, answered}
 use Rattle.judge_search.specs.Walk.{AreChoices, AreApart, PathPlace}
 
--- where a search is, how many answered calls have a place there, the calls that are left to try,
+-- where a search is, how many completed calls have a place there, the calls that are left to try,
 -- the path that led there, and the configurations from which nothing is left to try
 pub record Search (S O : Type 0) : Type 0 where
   pub at : Configuration S O
@@ -16,7 +16,7 @@ pub record Search (S O : Type 0) : Type 0 where
   pub known : List (Configuration S O)
 
 module _ {S O : Type 0} where
-  -- no step was made: answered calls are left, and those that may come next are all left to try,
+  -- no step was made: completed calls are left, and those that may come next are all left to try,
   -- each client's once
   pub record SearchHasBegun (start : Configuration S O) (search : Search S O) : Type 0 where
     pub at : search.at ≡ start
@@ -57,8 +57,8 @@ module _ {S O R : Type 0} (X : Rules S O R) where
         ⊎ Contains search.known (after_call X search.at call)
     pub is : next ≡ record search { tries = others }
 
-  -- a call is tried and made, and answered calls are left; those that may come next are all left to
-  -- try, each client's once
+  -- a call is tried and made, and completed calls are left; those that may come next are all left
+  -- to try, each client's once
   -- Not said: that a configuration that is known is not entered again; in which order the calls
   -- that may come next are tried.
   pub record GoesDeeper (search next : Search S O) : Type 0 where
@@ -84,7 +84,7 @@ module _ {S O R : Type 0} (X : Rules S O R) where
   MakesStep search next = PassesOver search next ⊎ GoesDeeper search next ⊎ GoesBack search next
 
   -- a search that began there has made this many steps, and nowhere placed more than this many
-  -- answered calls
+  -- completed calls
   abbrev pub HasMade : ℕ → Configuration S O → Search S O → ℕ → Type 0
   HasMade zero start search most = SearchHasBegun start search × (most ≡ 0)
   HasMade (suc steps) start search most =
@@ -96,7 +96,7 @@ module _ {S O R : Type 0} (X : Rules S O R) where
   HasRun zero start = ⊤
   HasRun (suc steps) start = (search : Search S O) × (most : ℕ) × HasMade steps start search most
 
-  -- `most` answered calls have a place somewhere
+  -- `most` completed calls have a place somewhere
   pub record Places (start : Configuration S O) (most : ℕ) : Type 0 where
     pub calls : List (Call O)
     pub at : Configuration S O
@@ -104,7 +104,7 @@ module _ {S O R : Type 0} (X : Rules S O R) where
     pub count : most + answered at.rest ≡ answered start.rest
 
   -- a search that began there has made `steps` steps, and neither found an order nor seen that
-  -- there is none; `most` answered calls had a place somewhere, and nowhere had more
+  -- there is none; `most` completed calls had a place somewhere, and nowhere had more
   pub record IsUndecided (start : Configuration S O) (steps most : ℕ) : Type 0 where
     pub search : Search S O
     pub made : HasMade steps start search most

@@ -15,7 +15,7 @@ pub record Views (W S O : Type 0) : Type 0 where
   pub can : W → ℕ → Bool
   pub tries : W → ℕ → List (Call O)
 
--- whether no answered call is left, where this many are
+-- whether no completed call is left, where this many are
 abbrev pub TellsLeft : ℕ → Bool → Type 0
 TellsLeft left done = (done ≡ true → left ≡ 0) × (done ≡ false → 0 < left)
 

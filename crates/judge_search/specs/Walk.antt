@@ -3,7 +3,7 @@
 use Rattle.std.specs.Prelude.{◌≡◌, ◌≢◌, ◌+◌, ◌≤◌, ⊤, ℕ, false, Some, List, [], ◌∷◌, All, slice_get}
 use Rattle.std.specs.List.{Contains}
 use Rattle.judge_object.specs.Rules.{Rules}
-use Rattle.judge_object.specs.Call.{Call, IsBehind, EachCall, is_answered}
+use Rattle.judge_object.specs.Call.{Call, IsBehind, EachCall, is_completed}
 use Rattle.judge_search.specs.Configurations.{Configuration, MayBegin, Goes, CallsReach, after_call, answered, PlacesAtMost, Deepest}
 
 module _ {O : Type 0} where
@@ -13,10 +13,10 @@ module _ {O : Type 0} where
   InTurn (call ∷ calls) =
       (call.begin ≤ call.end) × EachCall (λ later. IsBehind later call) calls × InTurn calls
 
-  -- a call begins by the last moment, and one that was never answered does not end before it
+  -- a call begins by the last moment, and a pending call does not end before it
   pub record IsTimed (last : ℕ) (call : Call O) : Type 0 where
     pub begins : call.begin ≤ last
-    pub ends : is_answered call ≡ false → last ≤ call.end
+    pub ends : is_completed call ≡ false → last ≤ call.end
 
   -- both hold of the calls
   pub record IsWhole (calls : List (Call O)) : Type 0 where
@@ -33,8 +33,8 @@ module _ {O : Type 0} where
   AreApart [] = ⊤
   AreApart (call ∷ calls) = EachCall (λ other. other.client ≢ call.client) calls × AreApart calls
 
--- a place of the path: its configuration, how many answered calls have a place there, the call that
--- was made there, and the calls that are left to try
+-- a place of the path: its configuration, how many completed calls have a place there, the call
+-- that was made there, and the calls that are left to try
 pub record PathPlace (S O : Type 0) : Type 0 where
   pub at : Configuration S O
   pub placed : ℕ
@@ -69,7 +69,7 @@ module _ {S O R : Type 0} (X : Rules S O R) where
       (a ≡ place.at) × Made total least place
       × PathLeads total least (after_call X place.at place.call) path b
 
-  -- a search that began at a configuration, and has seen `most` answered calls placed
+  -- a search that began at a configuration, and has seen `most` completed calls placed
   pub record IsWalk (start : Configuration S O) (most : ℕ) (at : Configuration S O) (placed : ℕ)
       (tries : List (Call O)) (path : List (PathPlace S O)) (known : List (Configuration S O)) :
       Type 0 where

@@ -81,9 +81,9 @@ module _ {W S O : Type 0} where
   }
 
 module _ {S O R : Type 0} (X : Rules S O R) {W : Type 0} where
-  -- a search that began there and has made `steps` steps: where it is, how many answered calls have
-  -- a place, its path, the worlds that are known, the deepest of them, how many have a place there,
-  -- and the calls that are left to try
+  -- a search that began there and has made `steps` steps: where it is, how many completed calls
+  -- have a place, its path, the worlds that are known, the deepest of them, how many have a place
+  -- there, and the calls that are left to try
   pub record IsSearch (views : Views W S O) (start : Configuration S O) (steps : ℕ) (world : W)
       (placed : ℕ) (path : List (Frame W)) (known : List W) (best most : ℕ)
       (tries : List (Call O)) : Type 0 where

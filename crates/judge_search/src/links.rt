@@ -6,7 +6,7 @@ ghost use Rattle.judge_search.specs.Calls.{are_sorted};
 ghost use Rattle.judge_search.specs.Links.{AreLinked, ArePartedAt, link_or};
 
 use crate::lasts::Lasts;
-use judge_object::Line;
+use judge_object::{Line, NEVER};
 use std::alloc::{AllocError, Global};
 
 /// Returns the place after that of a client's last call; 0 if the client has made none.
@@ -39,7 +39,7 @@ pub(crate) fn completed_of<O>(lines: &[Line<O>]) -> usize
     ensures { ArePartedAt lines.now result }
 {
     'lines: for place in 0..lines.len() {
-        if !lines[place].reply.is_some() {
+        if NEVER <= lines[place].end {
             return place;
         }
     }

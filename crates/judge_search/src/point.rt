@@ -14,7 +14,7 @@ ghost use Rattle.judge_object.specs.Call.{Call};
 use crate::calls::Calls;
 use crate::marks::{first_left, is_made, mark};
 use crate::world::World;
-use judge_object::{Line, Object, is_right};
+use judge_object::{Line, NEVER, Object, is_right};
 use std::alloc::{AllocError, Global};
 
 /// The marks of the calls that have a position in the order, and the state after them.
@@ -78,7 +78,7 @@ pub(crate) fn is_finished<M: Object>(low: usize, beyond: &[usize], lines: &[Line
     if first == lines.len() {
         return true;
     }
-    !lines[first].reply.is_some()
+    NEVER <= lines[first].end
 }
 
 /// Returns the later of a place and another.
@@ -223,8 +223,8 @@ impl<M: Object + Drop> World for Point<M> {
         Ok(next)
     }
 
-    fn is_answered(&self, calls: &Calls<M::Op>, place: usize) -> bool {
-        calls.as_slice()[place].reply.is_some()
+    fn is_completed(&self, calls: &Calls<M::Op>, place: usize) -> bool {
+        calls.as_slice()[place].end < NEVER
     }
 
     fn is_same(&self, _calls: &Calls<M::Op>, other: &Self) -> bool {

@@ -8,7 +8,7 @@ ghost use Rattle.judge_search.specs.Stuck.{AreStuck};
 
 use crate::calls::Calls;
 use crate::point::{Point, next_call};
-use judge_object::Object;
+use judge_object::{NEVER, Object};
 use std::alloc::{AllocError, Global};
 
 /// A blocked call, with the reply that the object would give.
@@ -36,7 +36,7 @@ fn stuck_lines<M: Object + Drop>(
     let mut found = Vec::new(alloc);
     let mut from = 0;
     'calls: while let Some(place) = next_call::<M>(low, beyond, calls, from) {
-        if lines[place].reply.is_some() {
+        if lines[place].end < NEVER {
             let (_, expected) = machine.make(&lines[place].op)?;
             found.push(Stuck { place, expected })?;
         }

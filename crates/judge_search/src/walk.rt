@@ -135,7 +135,7 @@ fn go_on<W: World + Drop>(
     if walk.known.has(ground, &next) {
         return Ok(Step::On(walk));
     }
-    let Some(count) = counted(walk.placed, next.is_answered(ground, place)) else {
+    let Some(count) = counted(walk.placed, next.is_completed(ground, place)) else {
         return Err(AllocError);
     };
     let Walk {

@@ -1,7 +1,7 @@
 //! The configurations that a search walks through.
 
 ghost use Rattle.std.specs.Prelude.{◌≡◌, ◌<◌, IfOk, true};
-ghost use Rattle.judge_object.specs.Call.{is_answered};
+ghost use Rattle.judge_object.specs.Call.{is_completed};
 ghost use Rattle.judge_search.specs.Configurations.{answered};
 ghost use Rattle.judge_search.specs.Walk.{AreChoices, AreApart};
 ghost use Rattle.judge_search.specs.Views.{Views, TellsLeft, TellsNext, LedTo};
@@ -42,9 +42,9 @@ pub trait World: Sized {
         ensures { IfOk result (λ next. LedTo Self.Of.rules (view ground.now) self.now place next) };
 
     /// Returns whether a call is completed.
-    fn is_answered(&self, ground: &Self::Ground, place: usize) -> bool
+    fn is_completed(&self, ground: &Self::Ground, place: usize) -> bool
         requires { place < (view ground.now).count }
-        ensures { result ≡ is_answered ((view ground.now).call place) };
+        ensures { result ≡ is_completed ((view ground.now).call place) };
 
     /// Returns true only if both worlds are equal.
     fn is_same(&self, ground: &Self::Ground, other: &Self) -> bool

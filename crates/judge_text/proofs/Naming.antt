@@ -9,7 +9,7 @@ use Rattle.std.proofs.lemmas.List.Concat.{flat_map-cons}
 use Rattle.std.proofs.lemmas.List.Elements.{All-head, All-filter, All-get_or, All-contains_itself, filter_passes}
 use Rattle.std.proofs.lemmas.List.Sorted.{All-permutation}
 use Rattle.judge_object.specs.Rules.{Rules, IsAnswerOf}
-use Rattle.judge_object.specs.Call.{Call, is_answered}
+use Rattle.judge_object.specs.Call.{Call, is_completed}
 use Rattle.judge_object.specs.declared.line.Line.{Line}
 use Rattle.judge_search.specs.declared.stuck.Stuck.{Stuck}
 use Rattle.judge_search.specs.Calls.{call_of, calls_of, soonest_of, rest_of, tries_from, can_come}
@@ -57,18 +57,18 @@ get_map f (y ∷ ys) (suc place) d x l = get_map f ys place d x (omega arith)
 
 module _ {O : Type 0} where
   -- a completed call that may come next is among the completed ones
-  some_completed : (calls : List (Call O)) (call : Call O) → Contains calls call → is_answered call ≡ true →
-      filter is_answered calls ≡ [] → ⊥
+  some_completed : (calls : List (Call O)) (call : Call O) → Contains calls call → is_completed call ≡ true →
+      filter is_completed calls ≡ [] → ⊥
   some_completed [] call h t none = let l = h.1 in absurd (omega arith)
   some_completed (x ∷ xs) call (zero, l, same) t none =
-      let e : is_answered x ≡ true = ap is_answered same ∙ t in
-      none_some x (filter is_answered xs) (sym (rw e at none))
+      let e : is_completed x ≡ true = ap is_completed same ∙ t in
+      none_some x (filter is_completed xs) (sym (rw e at none))
   some_completed (x ∷ xs) call (suc place, l, same) t none =
-      go (is_answered x) none (λ e. some_completed xs call (place, (omega arith), same) t e)
+      go (is_completed x) none (λ e. some_completed xs call (place, (omega arith), same) t e)
     where
-      go : (b : Bool) → cond b (x ∷ filter is_answered xs) (filter is_answered xs) ≡ [] →
-          (filter is_answered xs ≡ [] → ⊥) → ⊥
-      go true e more = none_some x (filter is_answered xs) (sym e)
+      go : (b : Bool) → cond b (x ∷ filter is_completed xs) (filter is_completed xs) ≡ [] →
+          (filter is_completed xs ≡ [] → ⊥) → ⊥
+      go true e more = none_some x (filter is_completed xs) (sym e)
       go false e more = more e
 
   numbers_kept : (lines : List (Line O)) →
@@ -109,7 +109,7 @@ module _ {S O R : Type 0} (X : Rules S O R) where
   -- the first of the calls that are found blocked
   record IsFirstStuck (s : S) (calls : List (Call O)) (first : Stuck R) : Type 0 where
     within : first.place < length calls
-    completed : is_answered (at X calls first.place) ≡ true
+    completed : is_completed (at X calls first.place) ≡ true
     other : IsAnswerOf X first.expected (at X calls first.place).reply → ⊥
 
   first_stuck : (s : S) (made : ℕ → Bool) (calls : List (Call O)) (first : Stuck R) (rest : List (Stuck R)) →
@@ -117,13 +117,13 @@ module _ {S O R : Type 0} (X : Rules S O R) where
       AreBlocked X (record { rest = rest_of made 0 calls; state = s }) →
       IsFirstStuck s calls first
   first_stuck s made calls first rest are blocked =
-      go (filter is_answered (tries_from made calls 0))
-      (filter_passes is_answered (tries_from made calls 0)) are.told_are
+      go (filter is_completed (tries_from made calls 0))
+      (filter_passes is_completed (tries_from made calls 0)) are.told_are
     where
       within : first.place < length calls
       within = All-head (λ (one : Stuck R). one.place < length calls) first rest are.within
 
-      go : (ys : List (Call O)) → All (λ y. is_answered y ≡ true) ys →
+      go : (ys : List (Call O)) → All (λ y. is_completed y ≡ true) ys →
           map (told X calls) (first ∷ rest) ≡ map (with_reply X s) ys → IsFirstStuck s calls first
       go [] all e = absurd (none_some (told X calls first) (map (told X calls) rest) (sym e))
       go (y ∷ ys) all e =
@@ -131,8 +131,8 @@ module _ {S O R : Type 0} (X : Rules S O R) where
           (map (with_reply X s) ys) e in
           let call : at X calls first.place ≡ y = ap (λ (p : Call O × R). p.0) same in
           let reply : first.expected ≡ (X.run s y.op).1 = ap (λ (p : Call O × R). p.1) same in
-          let completed : is_answered (at X calls first.place) ≡ true =
-          ap is_answered call ∙ All-head (λ (z : Call O). is_answered z ≡ true) y ys all in
+          let completed : is_completed (at X calls first.place) ≡ true =
+          ap is_completed call ∙ All-head (λ (z : Call O). is_completed z ≡ true) y ys all in
           let may = may_begin X made calls first.place within
           (All-head (λ (one : Stuck R). can_come X made calls one.place ≡ true) first rest are.can) in
           let own : first.expected ≡ (X.run s (at X calls first.place).op).1 =
@@ -151,9 +151,9 @@ module _ {S O R : Type 0} (X : Rules S O R) where
       AreStuck X s made calls [] →
       AreBlocked X (record { rest = rest_of made 0 calls; state = s }) → ⊥
   some_stuck s made calls are blocked =
-      go (filter is_answered (tries_from made calls 0)) refl are.told_are
+      go (filter is_completed (tries_from made calls 0)) refl are.told_are
     where
-      go : (ys : List (Call O)) → filter is_answered (tries_from made calls 0) ≡ ys →
+      go : (ys : List (Call O)) → filter is_completed (tries_from made calls 0) ≡ ys →
           [] ≡ map (with_reply X s) ys → ⊥
       go [] e none =
           some_completed (tries_from made calls 0) blocked.call
@@ -254,7 +254,7 @@ module _ {S O R : Type 0} (X : Rules S O R) (name : O → List ℕ) where
               call = call_of here.line;
               is = here.number.is;
               own = here.own;
-              completed = ap is_answered (sym here.call) ∙ found.completed;
+              completed = ap is_completed (sym here.call) ∙ found.completed;
               expected = first.expected;
               other = λ answer. found.other
                   (subst (λ (c : Call O). IsAnswerOf X first.expected c.reply) (sym here.call) answer);

@@ -1,5 +1,5 @@
--- Which call a line stands for: CLIENT BEGIN END OPERATION -> REPLY, or for a pending call
--- CLIENT BEGIN - OPERATION -> ?. Words are cut at every single space.
+-- Which call a line stands for: CLIENT BEGIN END OPERATION -> REPLY. In a pending call END is -,
+-- and REPLY is ? if the reply is unknown. Words are cut at every single space.
 use Rattle.std.specs.Prelude.{ℕ, ◌-◌, Option, Some, None, Result, Ok, Err, List, [], length, take, drop, get_or, nat_lt, codes, if◌then◌else◌}
 use Rattle.std.specs.Str.{bytes_eq}
 use Rattle.vac_lines.specs.Lines.{words_of}
@@ -39,12 +39,12 @@ abbrev pub operation_words : List (List ℕ) → List (List ℕ)
 operation_words words = take (length words - 5) (drop 3 words)
 
 module _ {O R : Type 0} (L : Language O R) where
-  -- a reply that was read; one that a pending call has not
+  -- a reply that was read
   abbrev pub some_reply : Option R → Option (Option R)
   some_reply None = None
   some_reply (Some reply) = Some (Some reply)
 
-  -- REPLY
+  -- REPLY: ? if the reply of a pending call is unknown
   abbrev pub word_reply : List ℕ → Option (Option R)
   word_reply word = if bytes_eq word (codes "?") then Some None else some_reply (L.reply word)
 
@@ -64,12 +64,12 @@ module _ {S O R : Type 0} (X : Rules S O R) where
     reply = reply_text reply;
   }
 
-  -- the call of these parts, if END and REPLY agree whether it is pending
+  -- the call of these parts; a completed call has a reply. If a pending call has one, it gave this
+  -- reply or never took effect
   abbrev pub whole_call : Span → O → Option R → Result (Call O) CallFault
   whole_call span op None =
       if nat_lt span.end NEVER then Err HalfCall else Ok (call_of_parts span op None)
-  whole_call span op (Some reply) =
-      if nat_lt span.end NEVER then Ok (call_of_parts span op (Some reply)) else Err HalfCall
+  whole_call span op (Some reply) = Ok (call_of_parts span op (Some reply))
 
   -- the call of parts that were read, or the first fault
   abbrev pub parts_call : Option Span → Option O → Option (Option R) → Result (Call O) CallFault

@@ -1,7 +1,7 @@
 -- The call that a verdict names if the calls of an object have no linearization.
 use Rattle.std.specs.Prelude.{◌≡◌, ⊤, ℕ, ◌+◌, true, Ok, List, ◌++◌}
 use Rattle.judge_object.specs.Rules.{Rules, IsAnswerOf}
-use Rattle.judge_object.specs.Call.{Call, is_answered}
+use Rattle.judge_object.specs.Call.{Call, is_completed}
 use Rattle.judge_object.specs.Linear.{IsCallAt}
 use Rattle.judge_object.specs.Orders.{IsLinearizable}
 use Rattle.judge_many.specs.Many.{part}
@@ -28,7 +28,7 @@ module _ {S O R : Type 0} (X : Rules S O R) (name : O → List ℕ) (L : Languag
     pub call : Call O
     pub is : IsCallAt calls place call
     pub own : name call.op ≡ for
-    pub completed : is_answered call ≡ true
+    pub completed : is_completed call ≡ true
     pub expected : R
     pub other : IsAnswerOf X expected call.reply → ⊥
     pub rest : List ℕ

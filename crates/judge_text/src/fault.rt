@@ -14,7 +14,7 @@ pub enum CallFault {
     BadOperation,
     /// REPLY is none of the object.
     BadReply,
-    /// Only one of END and REPLY says that the call is pending.
+    /// The call is completed, and REPLY is `?`.
     HalfCall,
 }
 

@@ -29,7 +29,7 @@ fn print_reply<M: Object>(
     }
 }
 
-/// Returns the line of a call, if its END and its reply agree whether it is pending.
+/// Returns the line of a call, unless the call is completed and has no reply.
 fn line_of<M: Object>(
     alloc: Global,
     number: u64,
@@ -40,7 +40,7 @@ fn line_of<M: Object>(
     ensures { IfOk result (λ read. IsReadLine (whole_call M.rules span op reply) number read) }
 {
     let reply = print_reply::<M>(alloc, reply)?;
-    if (span.end < NEVER) != reply.is_some() {
+    if span.end < NEVER && reply.is_none() {
         return Ok(Err(CallFault::HalfCall));
     }
     Ok(Ok(Line {

@@ -57,7 +57,7 @@ pub(crate) fn read_span(client: &[u8], begin: &[u8], end: &[u8]) -> Option<Span>
     Some(Span { client, begin, end })
 }
 
-/// Returns the reply that a word writes, which a pending call has not.
+/// Returns the reply that a word writes. The reply of a pending call may be unknown.
 pub(crate) fn read_reply<M: TextObject>(
     alloc: Global,
     reader: &mut M::Reader,

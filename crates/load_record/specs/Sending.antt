@@ -2,6 +2,7 @@
 use Rattle.std.specs.Prelude.{ℕ, List, [], ◌++◌, Option, codes, decimal}
 use Rattle.vac_lines.specs.TaskText.{task_text}
 use Rattle.vac_lines.specs.Text.{reply_text}
+use Rattle.judge_calls.specs.CallText.{end_text}
 use Rattle.vac_manager.specs.declared.note.CompletedCall.{CompletedCall}
 use Rattle.vac_lines.specs.Writing.{AppendsPrefix}
 use Rattle.vac_lines.specs.Sent.{Sent}
@@ -16,7 +17,8 @@ number_and_space n = decimal n ++ codes " "
 -- the client and the times of a call, each followed by a space
 abbrev pub stamps_text : Entry → List ℕ
 stamps_text e =
-    number_and_space e.client ++ number_and_space e.note.begin ++ number_and_space e.note.end
+    number_and_space e.client ++ number_and_space e.note.begin
+    ++ end_text e.note.end ++ codes " "
 
 -- the task and the reply of a call
 abbrev pub task_and_reply_text : CompletedCall → List ℕ

@@ -1,9 +1,9 @@
 //! One history of the calls of all clients.
 
-ghost use Rattle.std.specs.Prelude.{◌≡◌, ◌⊎◌, ◌<◌, false, ◌^◌, ◌++◌, [], length, OnOk, OnErr, IfOk, IfErr, IsErrOf};
+ghost use Rattle.std.specs.Prelude.{◌≡◌, ◌⊎◌, ◌<◌, false, ◌^◌, ◌++◌, [], length, codes, OnOk, OnErr, IfOk, IfErr, IsErrOf};
 ghost use Rattle.std.specs.List.{list_all};
 ghost use Rattle.vac_lines.specs.Script.{as_line};
-ghost use Rattle.judge_calls.specs.CallText.{call_text};
+ghost use Rattle.judge_calls.specs.CallText.{call_text, end_text};
 ghost use Rattle.vac_lines.specs.Writing.{AppendsPrefix};
 ghost use Rattle.vac_lines.specs.declared.stream_fault.StreamFault.TheVariants.{Memory, Write};
 ghost use Rattle.vac_lines.specs.Sent.{Sent};
@@ -33,6 +33,13 @@ fn append_number(hand: &mut Vec<u8>, number: u64) -> Result<(), AllocError>
     hand.extend_from_slice(b" ")
 }
 
+/// Appends the end of a completed call, and a space.
+fn append_end(hand: &mut Vec<u8>, end: u64) -> Result<(), AllocError>
+    ensures { OnOk result (hand.new.items ≡ hand.old.items ++ (end_text end ++ codes " ")) }
+{
+    append_number(hand, end)
+}
+
 /// Appends a call's client and times, with a space after each.
 fn append_stamps(hand: &mut Vec<u8>, picked: NextCall<'_>) -> Result<(), AllocError>
     ensures { OnOk result
@@ -40,7 +47,7 @@ fn append_stamps(hand: &mut Vec<u8>, picked: NextCall<'_>) -> Result<(), AllocEr
 {
     append_number(hand, u64::from(picked.client))?;
     append_number(hand, picked.note.begin)?;
-    append_number(hand, picked.note.end)
+    append_end(hand, picked.note.end)
 }
 
 /// Appends a call's task and reply.

@@ -44,7 +44,13 @@ fn legal_histories(rt: HostRuntime) -> Result<(), Fail> {
         "3 2 - leave 1 -> ?",
         "1 4 18446744073709551615 bill 1 -> -1",
     ];
-    let rows: [(&[&str], &str); 4] = [
+    let undetermined: &[&str] = &["0 0 - newcust 3 -> true", "1 4 5 bill 3 -> 0"];
+    let rows: [(&[&str], &str); 5] = [
+        (
+            undetermined,
+            "legal calls=2 clients=2\ncars=0 flights=0 rooms=0 customers=1 \
+                bookings=0 used=0 free=0 total=0 billed=0\n",
+        ),
         (
             never_answered,
             "legal calls=4 clients=3\ncars=0 flights=0 rooms=0 customers=1 \
@@ -74,7 +80,7 @@ fn legal_histories(rt: HostRuntime) -> Result<(), Fail> {
 
 #[test]
 fn illegal_calls(rt: HostRuntime) -> Result<(), Fail> {
-    let rows: [(&[&str], &str); 9] = [
+    let rows: [(&[&str], &str); 11] = [
         (
             &[
                 "5 0 - newcust 1 -> ?",
@@ -90,6 +96,8 @@ fn illegal_calls(rt: HostRuntime) -> Result<(), Fail> {
             &["5 0 - newcust 1 -> ?", "4 0 2 newcust 1 -> true"],
             "illegal reply 2 false exists\n",
         ),
+        (&["0 0 - newcust 7 -> x"], "illegal reply 1 true\n"),
+        (&["0 0 - newcust 7 -> ? "], "illegal reply 1 true\n"),
         (&["0 0 1 add car 7 10 50 -> truE"], "illegal reply 1 true\n"),
         (&["0 0 1 add car 7 10 50 -> tru"], "illegal reply 1 true\n"),
         (
@@ -118,10 +126,8 @@ fn illegal_calls(rt: HostRuntime) -> Result<(), Fail> {
 
 #[test]
 fn lines_that_are_no_calls(rt: HostRuntime) -> Result<(), Fail> {
-    let rows: [Row; 17] = [
-        ("0 0 - audit -> x", "fault bad-call 1\n"),
-        ("x 0 - audit -> x", "fault bad-call 1\n"),
-        ("0 0 - audit -> ? ", "fault bad-call 1\n"),
+    let rows: [Row; 15] = [
+        ("x 0 - audit -> x", "fault bad-number 1\n"),
         ("0 0 0 audit -> ?", "fault bad-call 1\n"),
         ("0 0 -- audit -> x", "fault bad-number 1\n"),
         ("0 - - audit -> ?", "fault bad-number 1\n"),

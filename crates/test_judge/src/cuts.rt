@@ -116,7 +116,7 @@ fn lines_of(rt: &impl Abort, alloc: Global, rows: &[Row]) -> Vec<Line<u64>> {
 fn stood(line: &Line<u64>, row: &Row, number: u64, end: Option<u64>) -> bool {
     let ended = match end {
         Some(end) => line.end == u128::from(end) && line.reply.is_some(),
-        None => line.end == NEVER && line.reply.is_none(),
+        None => line.end == NEVER && line.reply.is_some() == row.2.is_some(),
     };
     ended
         && line.number == number

@@ -7,11 +7,11 @@ returns c =
     let a = c.args in
     let client : a.client ≤ 4294967295 = search rules in
     let begin : a.begin < 2 ^ 64 = search rules in
-    c.call_texts_are_read.ensures (unanswered a.client a.begin a.task.now) (inr (record {
+    c.call_texts_are_read.ensures (unanswered a.client a.begin a.task.now) (inr (inr (record {
       client = client;
       begin = begin;
       end = refl;
       task = c.requires.in_range;
       line = c.requires.fits;
       reply = refl;
-    }))
+    })))

@@ -1,4 +1,4 @@
-use Rattle.std.proofs.Common.{◌≡◌, ◌∙◌, ap, sym, subst, ◌<◌}
+use Rattle.std.proofs.Common.{◌∙◌, ap, sym, subst, ◌<◌}
 use Rattle.std.proofs.lemmas.List.{get_or-map, length-map}
 use Rattle.judge_search.proofs.known.is_at.Goals as goal
 

@@ -1,8 +1,8 @@
-use Rattle.std.proofs.Common.{◌≡◌, ◌<◌, is_some, length, sym, ap, ◌∙◌, arith}
-use Rattle.judge_object.specs.declared.line.Line.{Line}
+use Rattle.std.proofs.Common.{◌≡◌, ◌<◌, length, get_or, arith}
 use Rattle.judge_search.specs.Marks.{is_made}
 use Rattle.judge_search.specs.Calls.{calls_of}
 use Rattle.judge_search.proofs.Sorted.{length_calls}
+use Rattle.judge_search.proofs.Soonest.{same_default}
 use Rattle.judge_search.proofs.Points.{tells_all, tells_first}
 use Rattle.judge_search.proofs.point.is_finished.Goals as goal
 
@@ -20,13 +20,12 @@ returns g c =
     let first = c.first_left-first.result in
     let within : first < length lines = (let a = c.first_left-first.ensures.within in let b = c.if-first-lines.false in
     omega arith) in
-    tells_first (g.M.Object.rules) (is_made c.args.low c.args.beyond.now) lines first c.index-lines-first.result
-    c.is_some.result
+    let line = get_or lines first c.index-lines-first.result in
+    tells_first (g.M.Object.rules) (is_made c.args.low c.args.beyond.now) lines first line
     (record {
       sorted = c.requires;
       within = within;
-      is = c.index-lines-first.is;
+      is = same_default lines first c.index-lines-first.result line within;
       below = c.first_left-first.ensures.below;
       left = c.first_left-first.ensures.left within;
     })
-    (c.is_some.ensures ∙ sym (ap (λ (x : Line _). is_some x.reply) c.index-lines-first.is))

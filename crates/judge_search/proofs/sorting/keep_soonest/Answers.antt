@@ -25,14 +25,11 @@ lines-preserved g c =
     (c.lesser-completed.ensures
     ∙ ap (λ (y : Line _). cond (nat_lt xe.end NEVER && nat_lt y.begin c.lines.completed) y.begin c.lines.completed)
     begins
-    ∙ ap (λ (y : Line _). cond (nat_lt y.end NEVER && nat_lt x.begin c.lines.completed) x.begin c.lines.completed) ends
-    ∙ ap (λ b. cond (b && nat_lt x.begin c.lines.completed) x.begin c.lines.completed) x.ended)
+    ∙ ap (λ (y : Line _). cond (nat_lt y.end NEVER && nat_lt x.begin c.lines.completed) x.begin c.lines.completed) ends)
     (c.lesser-pending.ensures
     ∙ ap (λ (y : Line _). cond (not (nat_lt xe.end NEVER) && nat_lt y.begin c.lines.pending) y.begin c.lines.pending)
     begins
     ∙ ap (λ (y : Line _). cond (not (nat_lt y.end NEVER) && nat_lt x.begin c.lines.pending) x.begin c.lines.pending)
-    ends
-    ∙ ap (λ b. cond (not b && nat_lt x.begin c.lines.pending) x.begin c.lines.pending) x.ended)
+    ends)
     (c.of_kind.ensures
-    ∙ ap (λ (y : Line _). cond (nat_lt y.end NEVER) c.lesser-completed.result c.lesser-pending.result) ends
-    ∙ ap (λ b. cond b c.lesser-completed.result c.lesser-pending.result) x.ended))
+    ∙ ap (λ (y : Line _). cond (nat_lt y.end NEVER) c.lesser-completed.result c.lesser-pending.result) ends))

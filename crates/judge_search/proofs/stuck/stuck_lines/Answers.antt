@@ -1,22 +1,19 @@
-use Rattle.std.proofs.Common.{◌≡◌, ◌+◌, ◌<◌, ℕ, is_some, Option, Some, None, length, get_or, refl, sym}
+use Rattle.std.proofs.Common.{◌≡◌, ◌+◌, ◌<◌, nat_lt, length, get_or, refl, sym}
 use Rattle.std.proofs.Common.{ap, ◌∙◌, subst, arith}
 use Rattle.std.specs.Global.{Vec}
-use Rattle.judge_object.specs.Rules.{given_text}
+use Rattle.judge_object.specs.declared.span.TheConstants.{NEVER}
 use Rattle.judge_object.specs.Call.{Call}
 use Rattle.judge_object.specs.declared.line.Line.{Line}
 use Rattle.judge_search.specs.declared.stuck.Stuck.{Stuck}
-use Rattle.judge_object.specs.Call.{is_answered}
+use Rattle.judge_object.specs.Call.{is_completed}
 use Rattle.judge_search.specs.Marks.{is_made}
 use Rattle.judge_search.specs.Calls.{calls_of}
 use Rattle.judge_search.proofs.Tries.{at}
-use Rattle.judge_search.proofs.Sorted.{call_here, length_calls}
+use Rattle.judge_search.proofs.Sorted.{early, late, call_here, length_calls}
 use Rattle.judge_search.proofs.StuckCalls.{AreFound, found_none, found_more, found_less, found_all}
 use Rattle.judge_search.proofs.stuck.stuck_lines.Goals as goal
-use Rattle.judge_search.proofs.stuck.stuck_lines.Goals.{then-is_some+in_ok-expected+in_ok-push, else-is_some}
-
-given : (reply : Option (Vec ℕ)) → is_some (given_text reply) ≡ is_some reply
-given None = refl
-given (Some text) = refl
+use Rattle.judge_search.proofs.stuck.stuck_lines.Goals.{then-lines-place-lt-NEVER+in_ok-expected+in_ok-push}
+use Rattle.judge_search.proofs.stuck.stuck_lines.Goals.{else-lines-place-lt-NEVER}
 
 pub calls-init : goal.calls-init
 calls-init g c =
@@ -51,29 +48,30 @@ calls-preserved g c =
     let within : p < length lines = (let l = next.within in omega arith) in
     let is : line ≡ get_or lines p line = c.index-lines-place.is ∙
     ap (λ ls. get_or ls p line) c.as_slice-lines.ensures in
+    let was = get_or c.as_slice-lines.result.now p line in
     let here = call_here (g.M.Object.rules) lines p line within is in
-    let some : is_answered (at (g.M.Object.rules) cs p) ≡ is_some line.reply = ap is_answered here ∙ given line.reply in
-    let same : c.is_some.result ≡ is_some line.reply = c.is_some.ensures ∙
-    sym (ap (λ (x : Line _). is_some x.reply) c.index-lines-place.is) in
-    elim c.if-is_some.branch [
-      | then-is_some+in_ok-expected+in_ok-push w ↦
-          let then_line = w.index-lines-place-then-is_some.result in
+    let some : is_completed (at (g.M.Object.rules) cs p) ≡ nat_lt was.end NEVER = ap is_completed here ∙
+    ap (λ (y : Line _). nat_lt y.end NEVER) c.index-lines-place.is in
+    elim c.if-lines-place-lt-NEVER.branch [
+      | then-lines-place-lt-NEVER+in_ok-expected+in_ok-push w ↦
+          let then_line = w.index-lines-place-then-lines-place-lt-NEVER.result in
           let then_is : then_line ≡ get_or lines p then_line =
-          w.index-lines-place-then-is_some.is ∙ ap (λ ls. get_or ls p then_line) c.as_slice-lines.ensures in
+          w.index-lines-place-then-lines-place-lt-NEVER.is
+          ∙ ap (λ ls. get_or ls p then_line) c.as_slice-lines.ensures in
           let x : Stuck _ = record { place = p; expected = w.in_ok-expected.expected } in
           subst (λ l. AreFound (g.M.Object.rules) s made cs l (p + 1))
           (sym (ap (λ (v : Vec (Stuck _)). v.items) w.found-is ∙
           w.in_ok-push.ensures.items))
           (found_more (g.M.Object.rules) s made cs c.calls.found.items c.calls.from p x next
-          (some ∙ sym same ∙ w.if-is_some.true) refl
+          (some ∙ late was.end NEVER w.if-lines-place-lt-NEVER.true) refl
           (sym (ap (λ (y : Call _). (g.M.Object.rules.run s y.op).1)
           (call_here (g.M.Object.rules) lines p then_line within then_is)
-          ∙ ap (λ (y : Line _). (g.M.Object.rules.run s y.op).1) w.index-lines-place-then-is_some.is ∙
-          ap (λ (y : _ × _). y.1) w.in_ok-expected.ensures))
+          ∙ ap (λ (y : Line _). (g.M.Object.rules.run s y.op).1) w.index-lines-place-then-lines-place-lt-NEVER.is
+          ∙ ap (λ (y : _ × _). y.1) w.in_ok-expected.ensures))
           c.calls.invariant)
-      | else-is_some w ↦
+      | else-lines-place-lt-NEVER w ↦
           subst (λ l. AreFound (g.M.Object.rules) s made cs l (p + 1))
           (sym (ap (λ (v : Vec (Stuck _)). v.items) w.found-is))
           (found_less (g.M.Object.rules) s made cs c.calls.found.items c.calls.from p next
-          (some ∙ sym same ∙ w.if-is_some.false) c.calls.invariant)
+          (some ∙ early was.end NEVER w.if-lines-place-lt-NEVER.false) c.calls.invariant)
     ]

@@ -27,4 +27,4 @@ returns-clause-steps g c = λ start steps w e m.
     c.push.new.self w c.requires.place e
     (subst (TellsLeft (answered (views.at c.args.next).rest)) c.if-is_done.false c.is_done.ensures.left) m
     c.is_done.ensures.all c.is_done.ensures.apart (c.in-Some.ensures ∙
-    ap (λ b. c.args.walk.placed + cond b 1 0) c.is_answered.ensures) c.in_ok-push.ensures.items
+    ap (λ b. c.args.walk.placed + cond b 1 0) c.is_completed.ensures) c.in_ok-push.ensures.items

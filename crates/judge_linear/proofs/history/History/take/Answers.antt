@@ -4,7 +4,7 @@ use Rattle.judge_calls.specs.Parts.{shown_call}
 use Rattle.judge_calls.specs.Order.{call_breaks_client}
 use Rattle.judge_linear.specs.declared.history.History.{History}
 use Rattle.judge_search.specs.Calls.{calls_of}
-use Rattle.judge_linear.proofs.Turns.{took, timed_of, never_of, not_true}
+use Rattle.judge_linear.proofs.Turns.{took, timed_of, not_true}
 use Rattle.judge_linear.proofs.history.History.take.Goals as goal
 
 pub returns : goal.returns
@@ -14,8 +14,8 @@ returns c = λ held.
     let after : History = record { lines = c.push.new.self; ends = c.insert.new.self } in
     let number : c.len.result ≡ length before.lines.items = c.len.ensures ∙ before.lines.ok.0 in
     took before after c.args.text.now (shown_call call) c.in_ok-line.line (c.len.result + 1) held
-    (c.in_ok-insert.ensures ∙ ap (λ e. insert before.ends call.client e) c.end_of-end.ensures)
+    (c.in_ok-insert.ensures ∙ ap (λ e. insert before.ends call.client e) c.end_or_never-end.ensures)
     (omega arith) c.in_ok-line.ensures.line c.in_ok-push.ensures.items
     (not_true (call_breaks_client (calls_of before.lines.items) (shown_call call))
     (sym (c.is_in_turn.ensures held) ∙ c.if-not-is_in_turn.false))
-    (timed_of call c.in_ok-line.ensures.begun) (never_of call)
+    (timed_of call c.in_ok-line.ensures.begun)

@@ -1,4 +1,4 @@
-use Rattle.std.proofs.Common.{◌≡◌, ◌≤◌, length}
+use Rattle.std.proofs.Common.{◌≡◌, length}
 use Rattle.judge_many.specs.Classes.{AreWellFormed, AreSameClasses, AreFlatTo}
 use Rattle.judge_many.proofs.classes.Classes.flatten.Given as goal
 

@@ -1,4 +1,4 @@
-use Rattle.std.proofs.Common.{sym, arith}
+use Rattle.std.proofs.Common.{arith}
 use Rattle.judge_many.proofs.Classing.{set_formed, linked, turned}
 use Rattle.judge_many.proofs.classes.Classes.link.Goals as goal
 

@@ -1,5 +1,5 @@
 use Rattle.std.proofs.Common.{sym, ap, ◌∙◌, arith}
-use Rattle.judge_many.specs.Classes.{name_at, parent_at}
+use Rattle.judge_many.specs.Classes.{name_at}
 use Rattle.judge_many.proofs.classes.Classes.root_of.Goals as goal
 
 pub up-preserved : goal.up-preserved
