@@ -23,6 +23,7 @@ use Rattle.judge_opacity.specs.Reading as opaque
 use Rattle.judge_opacity.specs.Placed as place
 use Rattle.judge_part_text.specs.Naming.{Named}
 use Rattle.judge_part_text.specs.Parting.{HasStoppedParting}
+use Rattle.judge_part_text.specs.Until.{HasStoppedPartingUntil}
 use Rattle.cli_main.specs.Judging.{JudgesHeld, JudgesWith, JudgeStopped, WorkStopped, NotOpened, NamedAlone}
 use Rattle.cli_main.specs.Ordering.{OrderStopped, FindsNone, HasRefusedInPart, OrderWorkStopped, HoldsOrder}
 use Rattle.cli_main.specs.Ordering.{HoldsText, HoldsInAnyOrder, JudgesText}
@@ -30,7 +31,7 @@ use Rattle.cli_main.specs.Ordering.{JudgesAnyOrder, JudgesAnyHeld, JudgesAnyWith
 use Rattle.cli_options.specs.declared.asked.JudgeSettings.{JudgeSettings}
 use Rattle.cli_main.specs.Asking.{AttemptsStopped, PlacingStopped, JudgesAs, JudgesUnless, JudgesAsked}
 use Rattle.cli_main.specs.Asking.{is_refused}
-use Rattle.cli_main.specs.Parting.{PartStopped}
+use Rattle.cli_main.specs.Parting.{PartStopped, CutStopped}
 use Rattle.cli_main.proofs.Ending.{nothing_then}
 
 -- where nothing was written behind it
@@ -154,6 +155,26 @@ part_stopped names stream.Write unread left held middle holds part line =
 part_stopped names stream.Memory unread left held middle holds none line =
     inr (named_stream stream.Memory (λ e. absurd cc) held middle holds none line)
 part_stopped names stream.Bound unread left held middle holds none line =
+    inr (named_stream stream.Bound (λ e. absurd cc) held middle holds none line)
+
+-- the same of the writing of the part of a cut
+pub cut_stopped : (names : Named) (at : ℕ) (fault : StreamFault) (unread left held middle holds : Option (List ℕ)) →
+    HasStoppedPartingUntil names at fault unread left held middle
+    → AppendsPrefix middle holds (fault_line fault) → CutStopped names at unread left held holds
+cut_stopped names at stream.Read unread left held middle holds none line =
+    inr (named_stream stream.Read (λ e. absurd cc) held middle holds none line)
+cut_stopped names at stream.Write unread left held middle holds part line =
+    inl (record {
+      bytes = part.bytes;
+      read = part.read;
+      is_part = part.is_part;
+      text = part.text;
+      is = part.is;
+      written = then_nothing held middle holds _ part.written line;
+    })
+cut_stopped names at stream.Memory unread left held middle holds none line =
+    inr (named_stream stream.Memory (λ e. absurd cc) held middle holds none line)
+cut_stopped names at stream.Bound unread left held middle holds none line =
     inr (named_stream stream.Bound (λ e. absurd cc) held middle holds none line)
 
 -- whether an order was found

@@ -17,10 +17,11 @@ same_names words names customers items e f g =
 
 pub named_as : (words : PartWords) (names : Named) (customers items : List (Bor (List ℕ))) (status : ℕ)
     (unread left held holds : Option (List ℕ)) → Some names ≡ names_of (texts_of customers) (texts_of items) →
-    customers ≡ words.customers.items → items ≡ words.items.items → WritesPart names status unread left held holds →
+    customers ≡ words.customers.items → items ≡ words.items.items →
+    WritesPart names words.until status unread left held holds →
     WritesPartOf words status unread left held holds
 named_as words names customers items status unread left held holds e f g w =
-    inl (subst (λ o. WritesPartIf o status unread left held holds)
+    inl (subst (λ o. WritesPartIf o words.until status unread left held holds)
     (same_names words (Some names) customers items e f g) w)
 
 pub unnamed_as : (words : PartWords) (customers items : List (Bor (List ℕ))) (status : ℕ)
@@ -29,5 +30,5 @@ pub unnamed_as : (words : PartWords) (customers items : List (Bor (List ℕ))) (
     customers ≡ words.customers.items → items ≡ words.items.items → status ≡ 2 →
     WritesPartOf words status unread unread held held
 unnamed_as words customers items status unread held e f g refused =
-    inl (subst (λ o. WritesPartIf o status unread unread held held) (same_names words None customers items e f g)
-    (refused, refl, refl))
+    inl (subst (λ o. WritesPartIf o words.until status unread unread held held)
+    (same_names words None customers items e f g) (refused, refl, refl))

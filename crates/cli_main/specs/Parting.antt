@@ -1,7 +1,8 @@
--- Writing the part of a history: status, input and output.
+-- Writing the part of a history, or of its cut: status, input and output.
 use Rattle.std.specs.Prelude.{◌≡◌, ◌⊎◌, ℕ, true, false, Option, Some, None, List, map}
 use Rattle.judge_part_text.specs.Naming.{Named, names_of}
 use Rattle.judge_part_text.specs.Parting.{HasParted, HasPartedInPart}
+use Rattle.judge_part_text.specs.Until.{HasPartedUntil, HasPartedUntilInPart}
 use Rattle.cli_options.specs.declared.asked.PartWords.{PartWords}
 use Rattle.vac_lines.specs.Writing.{AppendsPrefix}
 use Rattle.vac_lines.specs.declared.stream_fault.StreamFault.TheVariants.{Memory}
@@ -16,21 +17,32 @@ abbrev pub PartStopped : Named → Option (List ℕ) → Option (List ℕ) → O
 PartStopped names unread left held holds =
     HasPartedInPart names unread left held holds ⊎ NamedAlone held holds
 
--- the program writes the part of a history on the scope of these customers and items; the status
--- is 0 if the part was written
-abbrev pub WritesPart : Named → ℕ → Option (List ℕ) → Option (List ℕ) → Option (List ℕ)
+-- as `PartStopped`, for the part of the cut of a history at the end of the call of a line
+abbrev pub CutStopped : Named → ℕ → Option (List ℕ) → Option (List ℕ) → Option (List ℕ)
     → Option (List ℕ) → Type 0
-WritesPart names status unread left held holds =
+CutStopped names line unread left held holds =
+    HasPartedUntilInPart names line unread left held holds ⊎ NamedAlone held holds
+
+-- the program writes the part of a history on the scope of these customers and items, or, if a
+-- line is given, the part of its cut at the end of the call of that line; the status is 0 if the
+-- part was written
+abbrev pub WritesPart : Named → Option ℕ → ℕ → Option (List ℕ) → Option (List ℕ)
+    → Option (List ℕ) → Option (List ℕ) → Type 0
+WritesPart names None status unread left held holds =
     EndsWithStatus status (HasParted names true unread left held holds)
     (HasParted names false unread left held holds ⊎ PartStopped names unread left held holds)
+WritesPart names (Some line) status unread left held holds =
+    EndsWithStatus status (HasPartedUntil names line true unread left held holds)
+    (HasPartedUntil names line false unread left held holds
+    ⊎ CutStopped names line unread left held holds)
 
--- the program writes the part of a history on a scope, if there is one; otherwise the command line
--- is refused, nothing is read, and nothing is written to the output
-abbrev pub WritesPartIf : Option Named → ℕ → Option (List ℕ) → Option (List ℕ)
+-- the program writes the part of a history, or of its cut, on a scope, if there is one; otherwise
+-- the command line is refused, nothing is read, and nothing is written to the output
+abbrev pub WritesPartIf : Option Named → Option ℕ → ℕ → Option (List ℕ) → Option (List ℕ)
     → Option (List ℕ) → Option (List ℕ) → Type 0
-WritesPartIf (Some names) status unread left held holds =
-    WritesPart names status unread left held holds
-WritesPartIf None status unread left held holds =
+WritesPartIf (Some names) until status unread left held holds =
+    WritesPart names until status unread left held holds
+WritesPartIf None until status unread left held holds =
     (status ≡ 2) × (left ≡ unread) × (holds ≡ held)
 
 -- the scope that the words of a command line name
@@ -39,11 +51,11 @@ named_by words =
     names_of (map (λ word. word.now) words.customers.items)
     (map (λ word. word.now) words.items.items)
 
--- the program writes the part of a history on the scope that the words name, if they name one; or
--- memory for the scope was refused, nothing is read, and a prefix of the line that says so was
--- written
+-- the program writes the part of a history on the scope that the words name, if they name one, or
+-- the part of its cut, if they give a line; or memory for the scope was refused, nothing is read,
+-- and a prefix of the line that says so was written
 abbrev pub WritesPartOf : PartWords → ℕ → Option (List ℕ) → Option (List ℕ)
     → Option (List ℕ) → Option (List ℕ) → Type 0
 WritesPartOf words status unread left held holds =
-    WritesPartIf (named_by words) status unread left held holds
+    WritesPartIf (named_by words) words.until status unread left held holds
     ⊎ ((status ≡ 1) × (left ≡ unread) × AppendsPrefix held holds (fault_line Memory))

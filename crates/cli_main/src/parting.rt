@@ -1,4 +1,4 @@
-//! Writing the part of a history, and the resulting statuses.
+//! Writing the part of a history or of its cut, and the resulting statuses.
 
 ghost use Rattle.std.specs.Prelude.{◌≡◌};
 ghost use Rattle.judge_part_text.specs.Naming.{shown};
@@ -7,7 +7,7 @@ ghost use Rattle.cli_main.specs.Parting.{WritesPart, WritesPartOf};
 use crate::status::{end_by, end_judged, refuse};
 use cli_options::PartWords;
 use judge_heuristic::Names;
-use judge_part_text::{read_names, write_part};
+use judge_part_text::{read_names, write_part, write_part_until};
 use std::alloc::Global;
 use std::io::{Read, Write};
 use vac_lines::StreamFault;
@@ -21,17 +21,27 @@ N and ID are from 1 to 4294967295, KIND is car, flight or room\n";
     refuse(text, errors)
 }
 
-/// Writes the part of a history on the scope of these customers and items, and returns the status:
-/// 0 if the part was written.
-fn part_on<R: Read, W: Write>(alloc: Global, names: &Names, input: &mut R, output: &mut W) -> u8
-    ensures { WritesPart (shown names.now) result (R.remaining input.old) (R.remaining input.new)
+/// Writes the part of a history on the scope of these customers and items, or the part of its cut
+/// at the end of the call of a line, and returns the status: 0 if the part was written.
+fn part_on<R: Read, W: Write>(
+    alloc: Global,
+    names: &Names,
+    until: Option<u64>,
+    input: &mut R,
+    output: &mut W,
+) -> u8
+    ensures { WritesPart (shown names.now) until result
+        (R.remaining input.old) (R.remaining input.new)
         (W.contents output.old) (W.contents output.new) }
 {
-    end_judged(write_part(alloc, names, input, output), output)
+    match until {
+        Some(line) => end_judged(write_part_until(alloc, names, line, input, output), output),
+        None => end_judged(write_part(alloc, names, input, output), output),
+    }
 }
 
-/// Writes the part of a history on the scope that words name, and returns the status: 0 if the
-/// part was written.
+/// Writes the part of a history on the scope that words name, or the part of its cut if they give a
+/// line, and returns the status: 0 if the part was written.
 pub(crate) fn part<R: Read, W: Write, E: Write>(
     alloc: Global,
     words: &PartWords<'_>,
@@ -43,7 +53,7 @@ pub(crate) fn part<R: Read, W: Write, E: Write>(
         (W.contents output.old) (W.contents output.new) }
 {
     match read_names(alloc, words.customers.as_slice(), words.items.as_slice()) {
-        Ok(Some(names)) => part_on(alloc, &names, input, output),
+        Ok(Some(names)) => part_on(alloc, &names, words.until, input, output),
         Ok(None) => refuse_scope(errors),
         Err(_) => end_by(StreamFault::Memory, output),
     }

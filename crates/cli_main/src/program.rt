@@ -35,7 +35,8 @@ const UNKNOWN_LEVEL: &[u8] = b"error: --level is linearizable, sequential or ser
 /// status. The status is 0 if the program did its work or showed its help or its version. The
 /// status is 1 after a fault, or if `check` found no balanced state, `judge` no legal history,
 /// `order` no order of its level, `opaque` attempts that are not opaque, or `part` a call without a
-/// part. The status is 2 if the command line was refused, and 3 if a search did not decide.
+/// part or, for `--until`, without an end. The status is 2 if the command line was refused, and 3
+/// if a search did not decide.
 ///
 /// Help and the version go to `output`, the text of a refused command line to `errors`. A fault is
 /// the last line of `output`, unless `output` failed. The lines that a load writes to `errors`

@@ -1,5 +1,6 @@
 -- The values that clap's getters return.
-use Rattle.std.proofs.Common.{◌≡◌, ◌<◌, ◌&&◌, ◌^◌, ◌∙◌, ℕ, Bool, true, false, List, Option, Some, None, refl, sym, ap}
+use Rattle.std.proofs.Common.{◌≡◌, ◌<◌, ◌≤◌, ◌&&◌, ◌^◌, ◌∙◌, ℕ, Bool, true, false, List, Option, Some, None, refl, sym}
+use Rattle.std.proofs.Common.{ap}
 use Rattle.std.proofs.Common.{subst, codes, inl, inr, arith}
 use Rattle.std.specs.Str.Parse.{digits_value, without_leading_plus, ParsesUnsigned}
 use Rattle.clap.specs.Walk.{Row, Text}
@@ -11,7 +12,7 @@ use Rattle.std.specs.Prelude.{Result, Ok, Err}
 use Rattle.std.proofs.lemmas.Bool.{le-leb}
 use Rattle.vac_model.specs.Ranges.{is_block_count}
 use Rattle.vac_model.specs.declared.limits.TheConstants.{MOST_BLOCKS}
-use Rattle.cli_options.specs.CommandLine.{Gives, GivesIn, Says, IsFlag}
+use Rattle.cli_options.specs.CommandLine.{Gives, GivesIn, MayGiveIn, GivesLine, Says, IsFlag}
 use Rattle.cli_options.proofs.FoundRows.{same_some}
 
 pub number_read : (E : Type 0) (G : List ℕ → Result ℕ E → Type 0) (k : ℕ) (f : Found) (option : Text) (least most : ℕ)
@@ -43,6 +44,19 @@ pub one_number : (rows : List Row) (option : Text) (m n : ℕ) → Gives rows op
 one_number rows option m n a b =
     sym a.value ∙ ap (λ (t : Text). digits_value 10 (without_leading_plus t)) (same_some _ _ (sym a.one ∙ b.one)) ∙
     b.value
+
+-- the number of a line, if an option gives one
+pub line_read : (E : Type 0) (G : List ℕ → Result ℕ E → Type 0) (k : ℕ) (f : Found) (option : Text) (most : ℕ)
+    (r : Option ℕ)
+    → ((u : List ℕ) (x : Result ℕ E) → G u x → ParsesUnsigned k 10 u x) →
+    (one_text f option ≡ None → r ≡ None) → ((t : List ℕ) → one_text f option ≡ Some t → ReadsOne G t r) →
+    MayGiveIn (rows_of f) option 1 most → most < 2 ^ k → GivesLine (rows_of f) option r
+line_read E G k f option most r only none reads (inl absent) lt =
+    subst (GivesLine (rows_of f) option) (sym (none (one_text-rows f option ∙ absent))) absent
+line_read E G k f option most r only none reads (inr g) lt =
+    let read = number_read E G k f option 1 most r only reads g lt in
+    let same : g.number ≡ read.0 = one_number (rows_of f) option g.number read.0 g.given read.2 in
+    subst (GivesLine (rows_of f) option) (sym read.1) (read.2, subst (λ n. 1 ≤ n) same g.low)
 
 -- a number of blocks
 pub block_count : (rows : List Row) (n : ℕ) → GivesIn rows (codes "blocks") 1 MOST_BLOCKS →

@@ -1,7 +1,7 @@
 -- The values that clap finds if no step fails: an option with a default has a value that its rule
 -- accepts.
 use Rattle.std.proofs.Common.{◌≡◌, ◌<◌, ◌++◌, ◌||◌, ◌∙◌, Bool, cond, true, false, List, [], ◌∷◌, length, Option, Some}
-use Rattle.std.proofs.Common.{None, is_some, refl, sym, ap, subst, arith}
+use Rattle.std.proofs.Common.{None, is_some, refl, sym, ap, subst, arith, ◌⊎◌, inl, inr}
 use Rattle.std.specs.Prelude.{find, fold, option_map, option_and_then}
 use Rattle.std.specs.Option.{option_map_or}
 use Rattle.std.proofs.lemmas.Bool.{ne_eqb}
@@ -19,6 +19,7 @@ use Rattle.clap.specs.Faults.{level_fault, settle_fault, values_fault, walk_faul
 use Rattle.clap.specs.declared.parser.matches.ValueSource.{ValueSource}
 use Rattle.clap.specs.declared.parser.matches.ValueSource.TheVariants.{DefaultValue}
 use Rattle.cli_options.proofs.FoundRows.{Each, Fits, IsFit, both_none, first_passes, no_some, put_fits, same_some}
+use Rattle.cli_options.proofs.FoundRows.{found_each, found_passes}
 use Rattle.cli_options.proofs.Walks.{AllFit, settled_fits, walk_fits}
 
 -- ---- defaults
@@ -175,6 +176,36 @@ given_in c a rows own row =
           ap (λ how. Some (read_as how good.first)) good.reads;
       passes = good.passes;
     }
+
+-- the rows of a level that is accepted
+level_fits : (s : Shape) (words : List Text) → AllFit s.rules → level_fault s [] nothing_held words false [] ≡ [] →
+    Each (Fits s.rules) (rows_after s.rules [] words)
+level_fits s words all e =
+    let end = (walk s.rules [] nothing_held words).held in
+    let parts = both_none _ _ e in
+    let last = both_none _ _ parts.1 in
+    let after = both_none _ _ last.1 in
+    let walked = walk_fits s [] _ words all parts.0 tt in
+    let settled_all = settled_fits s.rules s.args_override_self end all last.0 walked in
+    defaults_fit s.rules s.rules (settled s.rules end).rows all after.0 settled_all
+
+-- an option without a default has no value, or one that its rule accepts
+pub level_may_give : (s : Shape) (words : List Text) (a : Rule) → AllFit s.rules →
+    level_fault s [] nothing_held words false [] ≡ [] → arg_by_id s.rules a.id ≡ Some a
+    → (one_of a.id (rows_after s.rules [] words) ≡ None) ⊎ IsGiven a (rows_after s.rules [] words)
+level_may_give s words a all e own =
+    go (find (λ r. bytes_eq r.id a.id) (rows_after s.rules [] words)) refl
+  where
+    go : (o : Option Row) → find (λ r. bytes_eq r.id a.id) (rows_after s.rules [] words) ≡ o →
+        (one_of a.id (rows_after s.rules [] words) ≡ None) ⊎ IsGiven a (rows_after s.rules [] words)
+    go None is = inl (ap (option_and_then row_text) is)
+    go (Some row) is = inr (given_in s.rules a _ own (record {
+      row = row;
+      found = is;
+      id_is = as_ids row.id a.id (found_passes (λ r. bytes_eq r.id a.id) (rows_after s.rules [] words) row is);
+      holds = found_each (Fits s.rules) (λ r. bytes_eq r.id a.id) (rows_after s.rules [] words) row
+          (level_fits s words all e) is;
+    }))
 
 pub level_gives : (s : Shape) (words : List Text) (a : Rule) → AllFit s.rules →
     level_fault s [] nothing_held words false [] ≡ [] → arg_by_id s.rules a.id ≡ Some a → 0 < length a.defaults

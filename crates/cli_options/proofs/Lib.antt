@@ -10,6 +10,7 @@ pub mod ScriptOptions
 pub mod JudgeOptions
 pub mod OrderOptions
 pub mod OpaqueOptions
+pub mod PartOptions
 pub mod LoadOptions
 pub mod Naming
 pub mod Getters

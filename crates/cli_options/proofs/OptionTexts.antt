@@ -80,10 +80,10 @@ number_given rows a least most parser g =
     }
 
 -- as `number_given`, for a number that is read as it is written
-pub seed_given : (rows : List Row) (a : Rule) (most : ℕ) → a.parser ≡ Some (vp.Unsigned 0 most) → IsGiven a rows →
-    GivesIn rows a.id 0 most
-seed_given rows a most parser g =
-    let accepted = accepts-Accepts a.ignore_case (vp.Unsigned 0 most) g.text
+pub unsigned_given : (rows : List Row) (a : Rule) (least most : ℕ) → a.parser ≡ Some (vp.Unsigned least most) →
+    IsGiven a rows → GivesIn rows a.id least most
+unsigned_given rows a least most parser g =
+    let accepted = accepts-Accepts a.ignore_case (vp.Unsigned least most) g.text
     (subst (λ (p : Option ValueParser). accepts a.ignore_case (parser_of_value p) g.text ≡ true) parser g.passes) in
     record {
       number = digits_value 10 (without_leading_plus g.text);
@@ -94,9 +94,13 @@ seed_given rows a most parser g =
         numeral = accepted.0;
         value = refl;
       };
-      low = omega arith;
+      low = accepted.2;
       high = accepted.3;
     }
+
+pub seed_given : (rows : List Row) (a : Rule) (most : ℕ) → a.parser ≡ Some (vp.Unsigned 0 most) → IsGiven a rows →
+    GivesIn rows a.id 0 most
+seed_given rows a most parser g = unsigned_given rows a 0 most parser g
 
 -- a flag is set or not
 pub flag_given : (rows : List Row) (name : Text) → IsGiven (filled (flag name)) rows → IsFlag rows name

@@ -168,9 +168,15 @@ item_option = record (new_rule (codes "item")) {
   value_names = 2;
 }
 
+-- `--until LINE`: the line at the end of whose call a history is cut before its part is written
+abbrev pub until_option : Rule
+until_option = record (valued_option (codes "until")) {
+  parser = Some (parser.Unsigned 1 MOST_NUMBER);
+}
+
 -- the options of a part
 abbrev pub part_options : List Rule
-part_options = customer_option ∷ item_option ∷ []
+part_options = customer_option ∷ item_option ∷ until_option ∷ []
 
 -- the flags of a load: reports of its progress and statistics, and its history or attempts as
 -- output
@@ -282,6 +288,17 @@ pub record GivesIn (rows : List Row) (option : Text) (least most : ℕ) : Type 0
   pub low : least ≤ number
   pub high : number ≤ most
 
+-- the rows of clap give the option a number in this range, or give the option no value
+abbrev pub MayGiveIn : List Row → Text → ℕ → ℕ → Type 0
+MayGiveIn rows option least most =
+    (one_of option rows ≡ None) ⊎ GivesIn rows option least most
+
+-- the rows of clap give the option this number of a line, which is at least 1; or, for none, give
+-- the option no value
+abbrev pub GivesLine : List Row → Text → Option ℕ → Type 0
+GivesLine rows option (Some line) = Gives rows option line × (1 ≤ line)
+GivesLine rows option None = one_of option rows ≡ None
+
 -- the rows of clap say whether the flag is set
 abbrev pub Says : List Row → Text → Bool → Type 0
 Says rows name is_set = one_of name rows ≡ Some (bool_text is_set)
@@ -355,11 +372,13 @@ pub record IsJudging (rows : List Row) (how : JudgeSettings) : Type 0 where
   pub search : IsSearchOfRows rows how.search
   pub named : how.names_search ≡ names_search rows how.search
 
--- the words for the scope of a part are the values of all uses of its options
+-- the words for the scope of a part are the values of all uses of its options, and the history is
+-- cut at the end of the call of the line that `--until` gives, if the words give one
 pub record IsPartWords (rows : List Row) (part : PartWords) : Type 0 where
   pub customers : map (λ value. value.now) part.customers.items
       ≡ values_of (codes "customer") rows
   pub items : map (λ value. value.now) part.items.items ≡ values_of (codes "item") rows
+  pub until : GivesLine rows (codes "until") part.until
 
 -- the rows of clap have all that a judge of attempts needs
 pub record HasOpacity (rows : List Row) : Type 0 where

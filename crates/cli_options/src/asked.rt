@@ -12,6 +12,7 @@ ghost use Rattle.cli_options.specs.CommandLine.{Says, IsFlag, HasFlags, IsTold, 
 ghost use Rattle.cli_options.specs.CommandLine.{IsFoundIn};
 ghost use Rattle.cli_options.specs.CommandLine.{HasSearch, IsSearchOfRows, HasJudging, IsJudging};
 ghost use Rattle.cli_options.specs.CommandLine.{HasOpacity, IsOpacity, values_of, IsPartWords};
+ghost use Rattle.cli_options.specs.CommandLine.{MayGiveIn, GivesLine};
 ghost use Rattle.cli_options.specs.CommandLine.{level_named, level_given, names_search, Names};
 
 use crate::options::command_line;
@@ -22,7 +23,8 @@ use load_tasks::Settings;
 use std::alloc::{AllocError, Global};
 use stm_words::VERSION_LIMIT;
 
-/// Largest value of an option for any 64-bit number: the seed of a load, or the steps of a search.
+/// Largest value of an option for any 64-bit number: the seed of a load, the steps of a search, or
+/// the number of a line.
 pub const MOST_NUMBER: u64 = u64::MAX;
 
 /// Attempts of a task in the settings of a load that is only drawn and not run. The tasks are the
@@ -82,6 +84,8 @@ pub struct PartWords<'a> {
     pub customers: Vec<&'a str>,
     /// The values of the items, a kind and an id for each.
     pub items: Vec<&'a str>,
+    /// The number of the line at the end of whose call the history is cut, if the words give one.
+    pub until: Option<u64>,
 }
 
 /// The settings of a judge of attempts.
@@ -113,7 +117,7 @@ pub enum Request<'a> {
     UnknownLevel,
     /// Judges attempts.
     Opaque(OpacitySettings),
-    /// Writes the part of a history on this scope.
+    /// Writes the part of a history, or of its cut, on this scope.
     Part(PartWords<'a>),
     /// Runs a load, with this output.
     Load(Settings, LoadOutput),
@@ -319,13 +323,27 @@ fn values_of<'a>(
     }
 }
 
-/// Returns the words for the scope of a part.
+/// Returns the number of the line at the end of whose call a history is cut, if the words give one.
+fn until_of(matches: &ArgMatches) -> Option<u64>
+    requires { MayGiveIn (rows_of (found_of matches.now)) (codes "until") 1 MOST_NUMBER }
+    ensures { GivesLine (rows_of (found_of matches.now)) (codes "until") result }
+{
+    matches.get_one::<u64>("until")
+}
+
+/// Returns the words for the scope of a part, and the line at the end of whose call the history is
+/// cut.
 fn part_words_of<'a>(alloc: Global, matches: &ArgMatches<'a>) -> Result<PartWords<'a>, AllocError>
+    requires { MayGiveIn (rows_of (found_of matches.now)) (codes "until") 1 MOST_NUMBER }
     ensures { IfOk result (λ part. IsPartWords (rows_of (found_of matches.now)) part) }
 {
     let customers = values_of(alloc, matches, "customer")?;
     let items = values_of(alloc, matches, "item")?;
-    Ok(PartWords { customers, items })
+    Ok(PartWords {
+        customers,
+        items,
+        until: until_of(matches),
+    })
 }
 
 /// Returns the number of words that a judge of attempts gives, or the default.

@@ -8,7 +8,8 @@ ghost use Rattle.cli_options.specs.CommandLine.{file_option, opaque_options, wit
 ghost use Rattle.cli_options.specs.CommandLine.{client_options, task_options, drawing_options};
 ghost use Rattle.cli_options.specs.CommandLine.{running_options, load_options};
 ghost use Rattle.cli_options.specs.CommandLine.{level_option, searching_options, judging_options};
-ghost use Rattle.cli_options.specs.CommandLine.{customer_option, item_option, part_options};
+ghost use Rattle.cli_options.specs.CommandLine.{customer_option, item_option, until_option};
+ghost use Rattle.cli_options.specs.CommandLine.{part_options};
 ghost use Rattle.cli_options.specs.CommandLine.{top_command, script_commands, judging_commands};
 ghost use Rattle.cli_options.specs.CommandLine.{load_commands, vacation, IsOption, IsCommand};
 ghost use Rattle.cli_options.specs.CommandLine.{GetsOptions, GetsCommands};
@@ -124,6 +125,17 @@ fn item_option<'a>(alloc: Global) -> Arg<'a>
         .value_names(&ITEM_NAMES)
         .action(ArgAction::Append)
         .help("Item of the scope, of the kind car, flight or room; up to 64 of them")
+}
+
+/// Returns the option for the line at the end of whose call a history is cut.
+fn until_option<'a>(alloc: Global) -> Arg<'a>
+    ensures { IsOption result until_option }
+{
+    Arg::new(alloc, "until")
+        .long("until")
+        .value_name("LINE")
+        .value_parser(value_parser!(u64).range(1..))
+        .help("Cuts the history at the end of the call of this line; lines count from 1")
 }
 
 /// Adds an option to a command.
@@ -269,7 +281,7 @@ fn part_command<'a>(alloc: Global) -> Made<'a>
         .about("Writes what the history on standard input says of some customers and items")
         .after_help("Example:\n  echo '1 0 5 newcust 3 -> true' | vacation part --customer 3")
         .arg(customer_option(alloc));
-    add_option(command, item_option(alloc))
+    add_option(add_option(command, item_option(alloc)), until_option(alloc))
 }
 
 /// Returns the subcommand that judges a history.

@@ -3,6 +3,7 @@ use Rattle.cli_options.proofs.ScriptOptions.{run_blocks, dump_blocks}
 use Rattle.cli_options.proofs.JudgeOptions.{judge_options}
 use Rattle.cli_options.proofs.OrderOptions.{order_blocks, order_search}
 use Rattle.cli_options.proofs.OpaqueOptions.{opaque_options}
+use Rattle.cli_options.proofs.PartOptions.{part_options}
 use Rattle.cli_options.proofs.LoadOptions.{tasks_options, load_options}
 use Rattle.cli_options.proofs.Naming.{one_is_named, none_is_named}
 use Rattle.cli_options.proofs.asked.asked_of.Goals as goal
@@ -29,6 +30,10 @@ order_asked-requires-clause-search c = order_search c.requires.0 _ c.requires.1.
 pub opacity_of-requires : goal.opacity_of-requires
 opacity_of-requires c = opaque_options c.requires.0 _ c.requires.1.taken
     (sym c.requires.1.found ∙ c.in-Some-named-4.ensures.some)
+
+pub part_words_of-requires : goal.part_words_of-requires
+part_words_of-requires c = part_options c.requires.0 _ c.requires.1.taken
+    (sym c.requires.1.found ∙ c.in-Some-named-5.ensures.some)
 
 pub settings_of-requires : goal.settings_of-requires
 settings_of-requires c = tasks_options c.requires.0 _ c.requires.1.taken
