@@ -328,13 +328,13 @@ class Transactions:
             begin = max(free[client] + 1, now - draw.randint(0, 3))
             end = max(begin, now) + draw.randint(0, 3)
             free[client] = end
-            self.add(client, begin, end, draw.random() < 0.1)
+            self.add(client, begin, *draw.choices([(end, True), (None, False), (None, True)], [16, 1, 1])[0])
             if self.calls[-1][2] == STORE.NEVER:
                 del free[client]
 
-    def add(self, client, begin, end, is_pending):
+    def add(self, client, begin, end, has_reply):
         draw, keys = self.draw, [*KEYS, b"9"]
-        fields = {"client": client, "begin": begin} | ({} if is_pending else {"end": end})
+        fields = {"client": client, "begin": begin} | ({} if end is None else {"end": end})
         if draw.random() < 0.3:
             name = draw.choice(["get", "put", "cas"])
             values = [draw.choice(VALUES) for _ in range({"get": 0, "cas": 2}.get(name, 1))]
@@ -345,7 +345,7 @@ class Transactions:
             fields["op"] = "txn"
             if not any(role != b"get" for role, _, _ in asked[2]):
                 asked = (b"txn", None, [*asked[2], (b"then", keys[0], None)])
-            if is_pending:
+            if not has_reply:
                 asked = (b"txn", None, [clause for clause in asked[2] if clause[0] != b"get"])
             for role, name in zip(STORE.ROLES, ("if", "reads", "then", "else")):
                 if found := [clause[1:] for clause in asked[2] if clause[0] == role]:
@@ -356,12 +356,13 @@ class Transactions:
         reply = reply if asked[1] is not None or reply != b"-" else b"true"
         if asked[1] is None and draw.random() < 0.1:
             reply = draw.choice([b"true", b"false"])
-        fields |= {} if is_pending else {"reply": json_reply(reply)}
-        self.calls.append((client, begin, STORE.NEVER if is_pending else end, asked, b"?" if is_pending else reply))
+        fields |= {"reply": json_reply(reply)} if has_reply else {}
+        has_reply = has_reply and (end is not None or fields["reply"] is not None)
+        self.calls.append((client, begin, STORE.NEVER if end is None else end, asked, reply if has_reply else b"?"))
         self.text += json.dumps(fields) + "\n"
 
     def has_order(self):
-        calls = [call for call in self.calls if not (call[3][0] == b"get" and call[4] == b"?")]
+        calls = [call for call in self.calls if not (call[3][0] == b"get" and call[2] == STORE.NEVER)]
         return STORE.has_order(sorted(calls, key=lambda call: call[1]), frozenset(), STORE.whole_step)
 
 

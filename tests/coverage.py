@@ -1,9 +1,9 @@
 #!/usr/bin/env python3
 """Checks what `vacation judge`, `order` and `opaque` report of a log on standard error: the figures of `--stats`, and
 the warning about a log that shows little, which nobody has to ask for. The figures are counted anew here, each call
-against each other. The logs are random, legal or with a damaged line, with and without overlaps, and empty. Standard
-output and the status must be the same with `--stats` and without. Its argument is the program; with none it is the
-one that the last build left."""
+against each other. The logs are random, legal or with a damaged line, with and without overlaps and calls without an
+end, and empty. Standard output and the status must be the same with `--stats` and without. Its argument is the program;
+with none it is the one that the last build left."""
 
 import random
 import subprocess
@@ -80,7 +80,7 @@ def drawn_log(draw, what, most=40):
                 ["commit", "abort", "commit r 1 0", "abort r 1 0 r 2 0", f"commit r 1 0 w {place + 9} 1"]))
     if what == "call" and lines and draw.random() < 0.3:
         words = lines[-1].split(" ")
-        lines[-1] = f"{words[0]} {words[1]} - newcust {len(lines)} -> ?"
+        lines[-1] = f"{words[0]} {words[1]} - newcust {len(lines)} -> {draw.choice(['?', 'true'])}"
     return lines
 
 

@@ -1,11 +1,11 @@
 #!/usr/bin/env python3
 """Holds ./explain against the program. Its model answers random scripts as the program does. Its search agrees with
-the program on random small histories, legal and damaged. The part of a legal history on any scope is legal, and so is
-the history up to any moment in one of its cases. The parts that the program writes are those of tests/parts.py. Each
-anomaly of tests/anomalies gets its name, a text of at most 30
-lines, and a smallest run that the program calls illegal. Legal logs of loads show no contradiction; a damaged log gets
-the judge's fault; a large one is read in bounded memory. The argument is the program; with none it is the one that
-the last build left."""
+the program on random small histories, legal and damaged, with pending and undetermined calls. The part of a legal
+history on any scope is legal, and so is the history up to any moment. The parts that the program writes are those of
+tests/parts.py, of the whole history and of its cut at the end of each call (`part --until`). Each anomaly of
+tests/anomalies gets its name, a text of at most 30 lines, and a smallest run that the program calls illegal; so does
+one with an undetermined call. Legal logs of loads show no contradiction; a damaged log gets the judge's fault; a large
+one is read in bounded memory. The argument is the program; with none it is the one that the last build left."""
 
 import os
 import random
@@ -20,11 +20,12 @@ from xml.etree import ElementTree
 ROOT = Path(__file__).resolve().parent.parent
 sys.dont_write_bytecode = True
 sys.path.insert(0, str(ROOT / "tools"))
-from parts import part_of
+from histories import unconfirmed
+from parts import part_of, part_until
 from explaining import history
 from explaining.findings import findings
 from explaining.model import run
-from explaining.parts import Bookings, Scope, cases, cut, project
+from explaining.parts import Bookings, Scope, cut, project
 from explaining.program import MOST_BLOCKS, Program, is_illegal, opening_tasks
 from explaining.search import first_wrong
 from explaining.tasks import BadLine, read_call, read_task
@@ -97,7 +98,8 @@ def holds_model(program):
 
 
 def drawn_history(draw, most):
-    """The lines of a legal history: calls take effect one after the other, each between its stamps."""
+    """The lines of a history: calls take effect one after the other, each between its stamps. It is legal, except for
+    undetermined calls with another reply or without effect."""
     state, ended, lines, now = {}, {}, [], 10
     for line in ("add car 1 2 50", "add room 1 1 60", "newcust 1")[:draw.randint(0, 3)]:
         state = run(state, read_task(line))[1]
@@ -110,12 +112,13 @@ def drawn_history(draw, most):
         client, task = draw.choice(clients), drawn_line(draw)
         begin = max(ended.get(client, 0), now - draw.randint(0, 9))
         now = max(now, begin)
-        if draw.random() < 0.08:
+        reply, after = run(state, read_task(task))
+        if draw.random() < 0.18:
             clients.remove(client)
-            state = run(state, read_task(task))[1] if draw.random() < 0.5 else state
-            lines.append(f"{client} {begin} - {task} -> ?")
+            state = draw.choice([state, after])
+            lines.append(f"{client} {begin} - {task} -> {unconfirmed(draw, reply)}")
             continue
-        reply, state = run(state, read_task(task))
+        state = after
         ended[client] = now + draw.randint(0, 9)
         lines.append(f"{client} {begin} {ended[client]} {task} -> {reply}")
     return lines
@@ -163,14 +166,14 @@ def holds_parts(program):
         if is_legal and moment < 1 << 64:
             kept = cut(calls, moment)
             want(first_wrong(kept, blocks=MOST_BLOCKS) is None, f"seed {seed}: legal, but not up to {moment}: {lines}")
-            want(any(program.judge(call.line() for call in case).startswith("legal") for case in cases(kept)),
-                 f"seed {seed}: legal, but in no case up to {moment}: {lines}")
+            verdict = program.judge(call.line() for call in kept)
+            want(verdict.startswith("legal"), f"seed {seed}: legal, but {verdict} up to {moment}: {lines}")
     want(legal > 100 and illegal > 20 and parts > 40, f"too few of a kind: {legal}, {illegal}, {parts}")
     return f"{legal} legal and {illegal} illegal histories, {parts} illegal parts"
 
 
-def written_part(program, lines, customers, items):
-    words = [program.path, "part", *(word for who in sorted(customers) for word in ("--customer", str(who))),
+def written_part(program, lines, customers, items, until=()):
+    words = [program.path, "part", *until, *(word for who in sorted(customers) for word in ("--customer", str(who))),
              *(word for kind, number in sorted(items) for word in ("--item", kind, str(number)))]
     done = subprocess.run(words, input="".join(f"{line}\n" for line in lines), capture_output=True, text=True,
                           check=False, timeout=PATIENCE)
@@ -180,8 +183,8 @@ def written_part(program, lines, customers, items):
 
 
 def holds_written_parts(program):
-    """The program writes the parts that the rules say, and those of legal histories are legal."""
-    parts = illegal = without = 0
+    """The program writes the parts that the rules say, and those of legal histories and of their cuts are legal."""
+    parts = illegal = without = cuts = 0
     for seed in range(2 * HISTORIES):
         draw = random.Random(SEED + 1_000 + seed)
         lines = drawn_history(draw, 12)
@@ -201,8 +204,25 @@ def holds_written_parts(program):
                 bad = is_illegal(program.judge(found))
                 parts, illegal = parts + 1, illegal + bad
                 want(not bad or not is_legal, f"seed {seed}: legal, but {found} is not: {lines}")
+            cuts += holds_written_cut(program, draw, lines, calls, (scope, is_legal))
     want(parts > 800 and illegal > 20 and without > 20, f"too few of a kind: {parts}, {illegal}, {without}")
-    return f"{parts} written parts, {illegal} of them illegal"
+    want(cuts > 600, f"only {cuts} parts of cuts")
+    return f"{parts} written parts, {illegal} of them illegal, and {cuts} parts of cuts"
+
+
+def holds_written_cut(program, draw, lines, calls, told):
+    """The program writes the part of the cut at the end of a line's call, or names what it lacks. Returns whether there
+    is such a part."""
+    scope, is_legal = told
+    line = draw.randint(1, len(lines) + 1)
+    found = written_part(program, lines, scope.customers, scope.items, ["--until", str(line)])
+    wanted = part_until(calls, line, scope.customers, scope.items)
+    want(found == wanted, f"the part on {scope.customers} and {scope.items} until {line} is {found}, not {wanted}:"
+         f" {lines}")
+    is_part = not found or not found[0].startswith("fault")
+    want(not is_legal or not is_part or not is_illegal(program.judge(found)),
+         f"legal, but the part until {line}, {found}, is not: {lines}")
+    return is_part
 
 
 def holds_openings():
@@ -235,6 +255,33 @@ def explain(program, log, *options, wanted=1):
                           capture_output=True, text=True, timeout=PATIENCE, check=False)
     want(done.returncode == wanted, f"explain {log}: status {done.returncode}: {done.stdout}{done.stderr}")
     return done.stdout.splitlines()
+
+
+# An undetermined call that took effect, as a later answer shows, and one that took none.
+UNDETERMINED = """0 0 0 newcust 1 -> true
+0 0 0 add car 1 1 50 -> true
+1 10 - reserve 1 car 1 -> true
+3 10 - newcust 1 -> true
+2 20 30 free car 1 -> 0
+2 40 50 bill 1 -> 0
+""".splitlines()
+
+
+def holds_undetermined(program, folder):
+    """An undetermined call is shown as one that took effect or not, and is one in the smallest run. One that is wrong
+    everywhere is left out."""
+    log = folder / "log"
+    log.write_text("".join(f"{line}\n" for line in UNDETERMINED), encoding="ascii")
+    lines = explain(program, log, "--html", folder / "page", "--svg", folder / "picture", "--small", folder / "small",
+                    "--work", folder / "work")
+    want(any("(took effect or not)" in line and "reserve 1 car 1 -> true" in line for line in lines), f"{lines}")
+    want(not any(line.startswith(" line 4 ") for line in lines), f"a call without effect is explained: {lines}")
+    small, work = (folder / "small").read_text(encoding="ascii"), (folder / "work").read_text(encoding="ascii")
+    want(re.search(r"^1 \d+ - reserve 1 car 1 -> true$", small, re.M) and "1 reserve 1 car 1\n" in work, small + work)
+    want("has no end in the log" in (folder / "page").read_text(encoding="utf-8"), "the page does not say so")
+    holds_files(program, folder)
+    log.write_text("".join(f"{line}\n" for line in UNDETERMINED[:-1]), encoding="ascii")
+    want(explain(program, log, wanted=0)[0].startswith("legal"), "calls with an undetermined one are not legal")
 
 
 class Page(HTMLParser):
@@ -345,6 +392,7 @@ def main():
             counted = holds_parts(program)
             written = holds_written_parts(program)
             holds_anomalies(program, Path(folder))
+            holds_undetermined(program, Path(folder))
             holds_logs(program, Path(folder))
             holds_pages(program, Path(folder))
         except AssertionError as wrong:

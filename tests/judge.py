@@ -1,9 +1,9 @@
 #!/usr/bin/env python3
 """Compares `vacation judge` with a naive judge that stands here, written from the table of verdicts in docs/RULES.md
 and apart from the program, over the model of the manager that all scripts share. The histories are random ones of a
-few clients, legal and damaged in one line. Some are checked against a workload (`--tasks`), the same or changed in one
-task. The naive judge looks through all earlier lines for each line, and keeps nothing. Its argument is the program;
-with none it is the one that the last build left."""
+few clients, legal and damaged in one line, with pending and undetermined calls. Some are checked against a workload
+(`--tasks`), the same or changed in one task. The naive judge looks through all earlier lines for each line, and keeps
+nothing. Its argument is the program; with none it is the one that the last build left."""
 
 import os
 import random
@@ -15,8 +15,9 @@ from pathlib import Path
 sys.path.insert(0, str(Path(__file__).resolve().parent.parent / "tools"))
 from explaining.model import run
 from explaining.tasks import read_task
+from histories import REPLIES
 
-BLOCKS, HISTORIES, MOST_TIME, NEVER = 9, 240, (1 << 64) - 1, 1 << 64
+BLOCKS, HISTORIES, MOST_TIME, NEVER = 9, 400, (1 << 64) - 1, 1 << 64
 KINDS = ["car", "flight", "room"]
 # Lines that are no task, with their fault.
 BAD = {
@@ -52,18 +53,17 @@ def line_fault(line):
     at = words.index("->") if "->" in words else -1
     if at < 4 or at + 1 == len(words):
         return "bad-call", None
-    if (words[2] == "-") != (words[at + 1:] == ["?"]):
+    has_end, has_reply = words[2] != "-", words[at + 1:] != ["?"]
+    if has_end and not has_reply:
         return "bad-call", None
-    is_answered = words[2] != "-"
-    numbers = zip(words, [10, 20, 20][:2 + is_answered], [(1 << 32) - 1, MOST_TIME, MOST_TIME])
+    numbers = zip(words, [10, 20, 20][:2 + has_end], [(1 << 32) - 1, MOST_TIME, MOST_TIME])
     if not all(number(word, digits, most) for word, digits, most in numbers):
         return "bad-number", None
     task = " ".join(words[3:at])
     if task in BAD:
         return BAD[task], None
-    if not is_answered:
-        return None, (int(words[0]), int(words[1]), NEVER, task, None)
-    return None, (*map(int, words[:3]), task, " ".join(words[at + 1:]))
+    end, reply = int(words[2]) if has_end else NEVER, " ".join(words[at + 1:]) if has_reply else None
+    return None, (int(words[0]), int(words[1]), end, task, reply)
 
 
 def judge(lines):
@@ -105,7 +105,8 @@ def drawn_task(draw):
 
 
 def drawn_history(draw):
-    """The lines of a legal history: each call takes effect at a time of its own, within its stamps."""
+    """The lines of a legal history: each call takes effect at a time of its own, within its stamps. The last call of
+    a client may be pending, or undetermined with the reply of its position."""
     manager, ended, lines, now = Manager(BLOCKS), {}, [], 10
     clients = draw.choice([[0], [1, 2], [0, 7, 4_294_967_295]])
     for _ in range(draw.randint(0, 25)):
@@ -117,9 +118,9 @@ def drawn_history(draw):
         end = now + draw.randint(0, 4)
         ended[client] = end
         answer = manager.answer(task)
-        if draw.random() < 0.05:
+        if draw.random() < 0.08:
             clients = [one for one in clients if one != client]
-            lines.append(f"{client} {begin} - {task} -> ?")
+            lines.append(f"{client} {begin} - {task} -> {draw.choice(['?', answer])}")
         else:
             lines.append(f"{client} {begin} {end} {task} -> {answer}")
         if not clients:
@@ -131,7 +132,7 @@ def damaged(draw, line):
     """A line in the place of one of a legal history; it may be right all the same."""
     words = line.split(" ")
     at = words.index("->")
-    how = draw.randint(0, 12)
+    how = draw.randint(0, 13)
     if how == 0:
         return " ".join(words[:3] + [draw.choice(list(BAD))] + words[at:])
     if how == 1:
@@ -158,6 +159,8 @@ def damaged(draw, line):
         words[2] = draw.choice(["-", "--"])
     elif how == 11:
         words[at + 1:] = ["?"]
+    elif how == 12:
+        words[2], words[at + 1:] = "-", [draw.choice(REPLIES)]
     else:
         words[2], words[at + 1:] = "-", ["?"]
     if how == 4 and "->" in words and words.index("->") != at - 1:

@@ -1,9 +1,9 @@
 #!/usr/bin/env python3
 """Compares `vacation order --level` and `vacation judge --any-order --level` with a search that stands here, written
 from docs/RULES.md and docs/JUDGE.md and apart from the program, over the model of the manager that all scripts share.
-The histories are small random ones, and each is searched at each level of consistency. An order that the program writes
-is checked by the rules of its level. Then come the command lines that are refused. Its argument is the program; with
-none it is the one that the last build left."""
+The histories are small random ones, with pending and undetermined calls, and each is searched at each level of
+consistency. An order that the program writes is checked by the rules of its level. Then come the command lines that are
+refused. Its argument is the program; with none it is the one that the last build left."""
 
 import os
 import random
@@ -15,7 +15,7 @@ from pathlib import Path
 sys.path.insert(0, str(Path(__file__).resolve().parent.parent / "tools"))
 from explaining import model
 from explaining.tasks import read_task
-from histories import interleaved
+from histories import REPLIES, interleaved, unconfirmed
 
 BLOCKS, HISTORIES, STEPS, NEVER = 5, 2_000, 100_000, 1 << 64
 LEVELS = ("linearizable", "sequential", "serializable")
@@ -26,13 +26,14 @@ TASKS_BELOW = "error: --tasks needs the level linearizable\n"
 
 
 class Call:
-    """A call of a history, with its line."""
+    """A call of a history, with its line. A pending call has no reply; an undetermined one has a reply and no end."""
 
     def __init__(self, line):
         head, reply = line.split(" -> ")
         self.client, begin, end, task = head.split(" ", 3)
         self.begin, self.line, self.task = int(begin), line, read_task(task)
-        self.end, self.reply = (NEVER, None) if end == "-" else (int(end), reply)
+        self.end, self.reply = NEVER if end == "-" else int(end), None if reply == "?" else reply
+        self.is_completed = end != "-"
 
     def fits(self, said):
         """True if the call may give this reply: a pending call may give any."""
@@ -46,7 +47,8 @@ def drawn_task(draw):
 
 
 def drawn_history(draw):
-    """The lines of a few clients that share few times; replies are those of some order of the calls."""
+    """The lines of a few clients that share few times; replies are those of some order of the calls. Of the calls
+    without an end some are pending, some undetermined, and some took no effect."""
     clients = range(draw.randint(2, 4))
     calls, free = [], {client: draw.randint(0, 3) for client in clients}
     for _ in range(draw.randint(0, 6)):
@@ -54,7 +56,7 @@ def drawn_history(draw):
         if free[client] == NEVER:
             continue
         begin = free[client] + draw.randint(0, 2)
-        end = NEVER if draw.random() < 0.1 else begin + draw.randint(0, 3)
+        end = NEVER if draw.random() < 0.15 else begin + draw.randint(0, 3)
         calls.append((client, begin, end, drawn_task(draw)))
         free[client] = end
     order = list(range(len(calls)))
@@ -62,8 +64,12 @@ def drawn_history(draw):
         draw.shuffle(order)
     replies, state = {}, {}
     for place in order:
-        replies[place], state = model.run(state, read_task(calls[place][3]), BLOCKS)
-    return [f"{client} {begin} {'-' if end == NEVER else end} {task} -> {'?' if end == NEVER else replies[place]}"
+        replies[place], after = model.run(state, read_task(calls[place][3]), BLOCKS)
+        if calls[place][2] == NEVER:
+            replies[place] = unconfirmed(draw, replies[place])
+            after = draw.choice([state, after])
+        state = after
+    return [f"{client} {begin} {'-' if end == NEVER else end} {task} -> {replies[place]}"
             for place, (client, begin, end, task) in enumerate(calls)]
 
 
@@ -77,7 +83,7 @@ def damaged(draw, lines):
         words[1] = str(draw.randint(0, 9))
         lines[place] = " ".join(words)
     elif words[-1] != "?":
-        words[words.index("->") + 1:] = [draw.choice(["true", "-1", "0", "5", "1"])]
+        words[words.index("->") + 1:] = [draw.choice(REPLIES)]
         lines[place] = " ".join(words)
     return lines
 
@@ -114,7 +120,7 @@ class Search:
 
     def go(self, left, state, placed):
         self.most = max(self.most, placed)
-        self.is_found |= all(self.calls[place].reply is None for place in left)
+        self.is_found |= not any(self.calls[place].is_completed for place in left)
         key = left, frozenset(state.items())
         if self.is_found or key in self.seen:
             return
@@ -123,14 +129,15 @@ class Search:
             call = self.calls[place]
             said, after = model.run(state, call.task, BLOCKS)
             if call.fits(said) and self.may_come(place, left):
-                self.go(left - {place}, after, placed + (call.reply is not None))
+                self.go(left - {place}, after, placed + call.is_completed)
 
 
 def is_order(lines, written, level):
-    """True if the written lines are those of the history, without some pending ones, in an order of the level."""
+    """True if the written lines are those of the history, without some calls that did not complete, in an order of the
+    level."""
     missing = Counter(lines)
     missing.subtract(written)
-    if any(count < 0 or count and Call(line).reply is not None for line, count in missing.items()):
+    if any(count < 0 or count and Call(line).is_completed for line, count in missing.items()):
         return False
     state, order = {}, [Call(line) for line in written]
     for place, call in enumerate(order):
@@ -194,7 +201,7 @@ def compare(program, lines, level):
     for line in stuck:
         word, number, expected = line.split(" ", 2)
         call = Call(lines[int(number) - 1])
-        if word != "stuck" or call.reply is None or told.startswith("illegal order ") and call.fits(expected):
+        if word != "stuck" or not call.is_completed or told.startswith("illegal order ") and call.fits(expected):
             sys.exit(f"{said}; {line!r} is stuck on no other reply")
     return False
 

@@ -1,9 +1,10 @@
 #!/usr/bin/env python3
-"""Compares `vacation order` with a naive search that stands here, written from docs/RULES.md and apart from the
-program, over the model of the manager that all scripts share. The histories are random ones of a few clients, put into
-other orders and damaged in one line. Up to eight calls all orders are tried; above that a search that remembers where
-it was. The order that the program writes is checked against the rules of a linearization. Then come inputs that are
-large or hostile. Its argument is the program; with none it is the one that the last build left."""
+"""Compares `vacation order` and `vacation judge --any-order` with a naive search that stands here, written from
+docs/RULES.md and apart from the program, over the model of the manager that all scripts share. The histories are random
+ones of a few clients, with pending and undetermined calls, put into other orders and damaged in one line. Up to eight
+calls all orders are tried; above that a search that remembers where it was. The order that the program writes is
+checked against the rules of a linearization. Then come inputs that are large or hostile. Its argument is the program;
+with none it is the one that the last build left."""
 
 import os
 import random
@@ -15,11 +16,11 @@ from pathlib import Path
 sys.path.insert(0, str(Path(__file__).resolve().parent.parent / "tools"))
 from explaining import model
 from explaining.tasks import read_task
-from histories import interleaved
+from histories import REPLIES, interleaved, unconfirmed
 
-BLOCKS, MANY_BLOCKS, HISTORIES, NEVER = 7, 1 << 18, 260, 1 << 64
+BLOCKS, MANY_BLOCKS, HISTORIES, NEVER = 7, 1 << 18, 2_000, 1 << 64
 FAULTS = {"": "bad-call", "1 2 3 audit": "bad-call", "x 2 3 newcust 1 -> true": "bad-number",
-          "1 2 3 fly -> true": "bad-command", "1 2 - newcust 1 -> true": "bad-call",
+          "1 2 3 fly -> true": "bad-command", "1 2 - fly -> true": "bad-command",
           "1 2 3 newcust 1 -> ?": "bad-call", "x" * 4097: "long-line", "\t": "bad-byte"}
 
 
@@ -36,7 +37,8 @@ def drawn_task(draw):
 
 
 def drawn_history(draw, most):
-    """The lines of a legal history in the order of effect."""
+    """The lines of a history in the order of effect. It is legal, except for undetermined calls with another reply or
+    without effect."""
     state, ended, lines, now, zero = {}, {}, [], 10, draw.random() < 0.1
     clients = list(range(draw.randint(1, 4)))
     for _ in range(draw.randint(0, most)):
@@ -50,23 +52,27 @@ def drawn_history(draw, most):
         ended[client] = end
         if zero:
             begin = end = 0
-        if draw.random() < 0.08:
+        reply, after = answer(state, task)
+        if draw.random() < 0.12:
             clients.remove(client)
-            if draw.random() < 0.5:
-                _, state = answer(state, task)
-            lines.append(f"{client} {begin} - {task} -> ?")
+            state = draw.choice([state, after])
+            lines.append(f"{client} {begin} - {task} -> {unconfirmed(draw, reply)}")
         else:
-            reply, state = answer(state, task)
+            state = after
             lines.append(f"{client} {begin} {end} {task} -> {reply}")
     return lines
 
 
 def read(line):
+    """The client, BEGIN, END, task and reply of a call. END is later than all times if the call did not complete; then
+    the reply is none if the call is pending, and given if it is undetermined."""
     head, reply = line.split(" -> ")
     client, begin, end, task = head.split(" ", 3)
-    if end == "-":
-        return client, int(begin), NEVER, task, None
-    return client, int(begin), int(end), task, reply
+    return client, int(begin), NEVER if end == "-" else int(end), task, None if reply == "?" else reply
+
+
+def is_completed(line):
+    return read(line)[2] < NEVER
 
 
 def mixed(draw, lines):
@@ -91,13 +97,13 @@ def damaged(draw, lines):
     if how == 0:
         lines[place] = draw.choice(list(FAULTS))
     elif how == 1:
-        words[words.index("->") + 1:] = ["?"] if words[2] == "-" else [draw.choice(["true", "-1", "5", "1"])]
+        words[words.index("->") + 1:] = [draw.choice(["?", *REPLIES] if words[2] == "-" else REPLIES)]
         lines[place] = " ".join(words)
     elif how == 2:
         words[1] = str(draw.randint(0, 40))
         lines[place] = " ".join(words)
-    elif how == 3 and words[2] != "-":
-        words[2] = str(draw.randint(0, 40))
+    elif how == 3 and words[-1] != "?":
+        words[2] = draw.choice(["-", str(draw.randint(0, 40))])
         lines[place] = " ".join(words)
     elif how == 4:
         del lines[place]
@@ -132,7 +138,7 @@ class Search:
     def go(self, done, state, placed):
         heads = [self.queues[name][at] for name, at in zip(self.names, done) if at < len(self.queues[name])]
         self.most = max(self.most, placed)
-        if all(self.calls[place][4] is None for place in heads):
+        if all(self.calls[place][2] == NEVER for place in heads):
             self.is_found = True
         key = (done, frozenset(state.items()))
         if self.is_found or key in self.seen:
@@ -142,11 +148,11 @@ class Search:
         for number, name in enumerate(self.names):
             if done[number] == len(self.queues[name]):
                 continue
-            _, begin, _, task, reply = self.calls[self.queues[name][done[number]]]
+            _, begin, end, task, reply = self.calls[self.queues[name][done[number]]]
             said, after = answer(state, task, self.blocks)
             if all(begin <= self.calls[place][2] for place in heads) and reply in (None, said):
                 more = tuple(at + (other == number) for other, at in enumerate(done))
-                self.go(more, after, placed + (reply is not None))
+                self.go(more, after, placed + (end < NEVER))
 
 
 class Part:
@@ -188,19 +194,20 @@ class Part:
         return (task, reply) if is_kept and not is_read and reply != "false full" else None
 
     def lines(self):
-        parts = [(head, self.call(*head[3:])) for head in self.calls]
-        return [f"{client} {begin} {'-' if end == NEVER else end} {part[0]} -> {part[1] or '?'}"
-                for (client, begin, end, *_), part in parts if part]
+        """The lines of the part, by the numbers of the lines of the history."""
+        parts = [(number, head, self.call(*head[3:])) for number, head in enumerate(self.calls, 1)]
+        return {number: f"{client} {begin} {'-' if end == NEVER else end} {part[0]} -> {part[1] or '?'}"
+                for number, (client, begin, end, *_), part in parts if part}
 
 
 def cut(lines, moment):
-    """The lines as they stood at a moment: a call that was running is pending, and a later call is left out."""
+    """The lines as they stood at a moment: a call that was running has no end, and a later call is left out."""
     for line in lines:
-        client, begin, end, task, _ = read(line)
+        client, begin, end, task, reply = read(line)
         if end <= moment:
             yield line
         elif begin <= moment:
-            yield f"{client} {begin} - {task} -> ?"
+            yield f"{client} {begin} - {task} -> {reply or '?'}"
 
 
 def has_order(lines):
@@ -211,40 +218,56 @@ def has_order(lines):
 
 def check_part(lines, told, said):
     """The named part has no order, by the search that stands here, and the named call is the first at whose end the
-    part has none."""
+    part has none. Returns the lines of the part by their numbers."""
     _, _, number, *names = told.split(" ")
-    part = Part(lines, names).lines()
-    ends = sorted({read(line)[2] for line in part if read(line)[4] is not None})
+    numbered = Part(lines, names).lines()
+    part = list(numbered.values())
+    ends = sorted({read(line)[2] for line in part if is_completed(line)})
     first = next((end for end in ends if not has_order(cut(part, end))), None)
     if has_order(part) or read(lines[int(number) - 1])[2] != first:
         sys.exit(f"{said}; the part has an order, or first has none at {first}")
+    return numbered
 
 
-def check_order(lines, written):
-    """Whether these lines are an order of those that is a linearization."""
-    state, queues, latest = {}, {}, 0
+def verdict_on_order(lines, written):
+    """What the judge writes of the second lines, if they are an order of the first that is a linearization; else
+    none."""
+    state, queues, latest, clients = {}, {}, 0, set()
     for line in lines:
         queues.setdefault(read(line)[0], []).append(line)
     for line in written:
         client, begin, end, task, reply = read(line)
         said, state = answer(state, task)
         if queues[client].pop(0) != line or end < latest or reply not in (None, said):
-            return False
+            return None
         latest = max(latest, begin)
-    return all(read(line)[4] is None for left in queues.values() for line in left)
+        clients.add(client)
+    if any(is_completed(line) for left in queues.values() for line in left):
+        return None
+    return f"legal calls={len(written)} clients={len(clients)}\n{answer(state, 'audit')[0]}\n"
 
 
-def run(program, text, steps=1_000_000, blocks=BLOCKS, seconds=60):
+def run(program, text, steps=1_000_000, blocks=BLOCKS, seconds=60, command=("order",)):
     ended = subprocess.run(
-        [program, "order", "--blocks", str(blocks), "--steps", str(steps)],
+        [program, *command, "--blocks", str(blocks), "--steps", str(steps)],
         input=text.encode("latin-1"), capture_output=True, timeout=seconds, check=False)
     return ended.returncode, ended.stdout.decode("latin-1")
+
+
+def check_judge(program, lines, text, ordered):
+    """`judge --any-order` judges the calls in the order that `order` finds, or says what `order` says."""
+    status, out = ordered
+    wanted = (0, verdict_on_order(lines, out.splitlines())) if status == 0 else ordered
+    judged = run(program, text, command=("judge", "--any-order"))
+    if judged != wanted:
+        sys.exit(f"order: of\n{text}\njudge --any-order says {judged}, and {wanted} is right")
 
 
 def compare(program, lines, ending):
     """Compares the program with the search, and returns how the history is told."""
     text = "\n".join(lines) + ending
-    status, out = run(program, text)
+    ordered = status, out = run(program, text)
+    check_judge(program, lines, text, ordered)
     said = f"order: of\n{text}\nthe program says {out!r}, status {status}"
     wrong = first_wrong(lines)
     if wrong is not None:
@@ -254,17 +277,19 @@ def compare(program, lines, ending):
     search = Search(lines)
     search.go((0,) * len(search.names), {}, 0)
     if search.is_found:
-        if status != 0 or not check_order(lines, out.splitlines()):
+        if status != 0 or verdict_on_order(lines, out.splitlines()) is None:
             sys.exit(f"{said}; there is an order, and this is none")
         return "legal"
     told, *stuck = out.splitlines()
+    numbered = dict(enumerate(lines, 1))
     if status == 1 and told.startswith("illegal part ") and stuck:
-        check_part(lines, told, said)
+        numbered = check_part(lines, told, said)
     elif status != 1 or told != f"illegal order {search.most}" or not stuck:
         sys.exit(f"{said}; no order is legal, and the longest has {search.most} calls")
     for line in stuck:
         word, number, expected = line.split(" ", 2)
-        if word != "stuck" or read(lines[int(number) - 1])[4] in (None, expected):
+        blocked = numbered.get(int(number))
+        if word != "stuck" or blocked is None or not is_completed(blocked) or read(blocked)[4] == expected:
             sys.exit(f"{said}; {line!r} is stuck on no other reply")
     return " ".join(told.split(" ")[:2])
 
@@ -280,9 +305,12 @@ def hostile(program):
     wrong = span.replace(f" {10 * many - 15} free car 1 -> -1", f" {10 * many - 15} free car 1 -> 4")
     stuck = f"{many} 0 {many + many // 2} audit -> 3\n"
     long_line = "1 2 3 " + "x" * 4080
+    unsure = "".join(f"{i} 0 - free car 9 -> 3\n" for i in range(many)) + "".join(
+        f"{many + i} 0 - newcust {i} -> true\n{2 * many + i} 5 9 bill {i} -> 0\n" for i in range(1, 61))
     for text, wanted, steps in [(overlap, 0, 10_000), (span, 0, 10_000), (overlap + late, 3, 200),
                                 (overlap + stuck, 3, 2 * many), (overlap + part, 1, 200), (wrong, 1, 100_000),
-                                ("\n" * 10, 1, 5), (long_line, 1, 5), ("1 0 1 newcust 1 -> true\n" * 9, 1, 5)]:
+                                (unsure, 0, 10_000), (unsure + part, 1, 10_000), ("\n" * 10, 1, 5),
+                                (long_line, 1, 5), ("1 0 1 newcust 1 -> true\n" * 9, 1, 5)]:
         status, out = run(program, text, steps, 64, 600)
         if status != wanted:
             sys.exit(f"order: status {status} in the place of {wanted}, of {text[:200]!r}: {out[:200]!r}")
@@ -293,11 +321,14 @@ def held(program):
     history, work = "2 3 9 bill 1 -> 0\n1 0 5 newcust 1 -> true\n", "1 newcust 1\n2 bill 1\n"
     pending, alone = "2 6 - bill 1 -> ?\n1 0 5 newcust 1 -> true\n", "1 0 5 newcust 1 -> true\n"
     late, legal = "2 3 9 bill 2 -> -1\n1 0 5 newcust 1 -> true\n", "legal calls=2 clients=2\n"
+    unsure, needed = pending.replace("?", "7"), "2 6 9 bill 1 -> 0\n1 0 - newcust 1 -> true\n"
     for history, tasks, status, begins in [
             (history, work, 0, legal), (history, work + "2 bill 2\n", 1, "illegal missing 2 2\n"),
             (history, "2 newcust 1\n", 1, "illegal task 1\n"), (history, "x\n", 1, "fault bad-tasks 1\n"),
             (late, work, 1, "illegal task 1\n"), (pending, work, 1, "illegal pending 1\n"),
-            (alone, work, 1, "illegal missing 2 1\n"), (pending + "1 9 9 audit -> x\n", work, 1, "illegal order 1\n")]:
+            (unsure, work, 1, "illegal pending 1\n"), (needed, work, 0, legal),
+            (needed, work + "1 audit\n", 0, legal), (alone, work, 1, "illegal missing 2 1\n"),
+            (pending + "1 9 9 audit -> x\n", work, 1, "illegal order 1\n")]:
         with tempfile.NamedTemporaryFile("w") as file:
             file.write(tasks)
             file.flush()
@@ -313,7 +344,7 @@ def main():
     program = sys.argv[1] if len(sys.argv) > 1 else built
     draw, told = random.Random(56), {}
     for number in range(HISTORIES):
-        lines = mixed(draw, drawn_history(draw, 8 if number % 2 else 14))
+        lines = mixed(draw, drawn_history(draw, 14 if number % 8 == 0 else 8))
         if lines and draw.random() < 0.6:
             lines = damaged(draw, lines)
         how = compare(program, lines, "\n" if lines and draw.random() < 0.8 or lines[-1:] == [""] else "")

@@ -1,9 +1,10 @@
 """Parts of histories as the subcommand `part` must write them, by trying which items can be closed and which customers
-whole. Written from crates/judge_part/specs, apart from the parts of tools/explaining."""
+whole, and parts of cuts (`part --until`). Written from crates/judge_part/specs, crates/judge_levels/specs and
+crates/judge_part_text/specs, apart from the parts of tools/explaining."""
 
 from dataclasses import dataclass, replace
 
-from explaining.tasks import Task
+from explaining.tasks import NEVER, Task
 
 KINDS = ("car", "flight", "room")
 MOST_ID = 4_294_967_295
@@ -164,12 +165,31 @@ def part_of_call(names, call):
     return None if found is None else replace(call, task=found[0], reply=found[1])
 
 
+def cut_of(calls, moment):
+    """The calls as they stood at a moment, each with the number of its line: a call that was running is undetermined
+    if its reply is known."""
+    return [(number, call if call.end <= moment else replace(call, end=NEVER))
+            for number, call in enumerate(calls, 1) if min(call.begin, call.end) <= moment]
+
+
+def part_until(calls, line, customers, items):
+    """What `part --until` must write for these calls."""
+    if not 1 <= line <= len(calls) or calls[line - 1].end == NEVER:
+        return [f"fault no-end {line}"]
+    return part_of_numbered(cut_of(calls, calls[line - 1].end), customers, items)
+
+
 def part_of(calls, customers, items):
     """What `part` must write for these calls."""
-    names = Names(frozenset(customers), frozenset(items))
-    for place, call in enumerate(calls, 1):
+    return part_of_numbered(list(enumerate(calls, 1)), customers, items)
+
+
+def part_of_numbered(numbered, customers, items):
+    """The part of calls, each with the number of its line; or the fault of the first call that has no part."""
+    names, calls = Names(frozenset(customers), frozenset(items)), [call for _, call in numbered]
+    for number, call in numbered:
         if not fits(names, call):
-            return [f"fault no-part {place}"]
+            return [f"fault no-part {number}"]
     names = replace(
         names,
         closed=frozenset(item for item in items

@@ -13,7 +13,7 @@ from harness.clients import Behaviour, Client
 from harness.keyvalue import Store
 from harness.outcomes import Lost, Refused, Unknown
 from harness.records import Mistake, Policy, Recorder, Seat
-from harness.sessions import Session, SqlSession
+from harness.sessions import Session, SqlSession, StoreSession
 from harness.sql import TABLES, Connection
 
 
@@ -70,10 +70,11 @@ class Tables(Connection):
 
 
 class Memory(Store):
-    """A store in memory."""
+    """A store in memory. If it is told to, it loses the reply of each commit."""
 
-    def __init__(self):
+    def __init__(self, loses_replies=False):
         self.data = {}
+        self.loses_replies = loses_replies
 
     def get(self, key):
         return self.data.get(key)
@@ -87,6 +88,8 @@ class Memory(Store):
                 self.data.pop(key, None)
             else:
                 self.data[key] = value
+        if self.loses_replies:
+            raise Unknown()
 
     def close(self):
         pass
@@ -119,11 +122,12 @@ POLICIES = [
     (Policy.ASK, [Refused(), "true", Lost(), Lost(), "false exists"],
      ["7 newcust 1 -> true", "7 newcust 2 -> false exists"], {"refused": 1, "lost": 2}),
     (Policy.LEAVE, [Unknown(), "true"], ["7 - newcust 1 -> ?", "1007 newcust 2 -> true"], {"pending": 1}),
+    (Policy.LEAVE, [Unknown("", "true"), "true"], ["7 - newcust 1 -> true", "1007 newcust 2 -> true"], {"pending": 1}),
     (Policy.ASK, [Unknown(), Unknown()], ["7 - newcust 1 -> ?", "1007 - newcust 2 -> ?"], {"pending": 2}),
     (Policy.TOKEN, [Unknown(), "true", "true"], ["7 newcust 1 -> true", "7 newcust 2 -> true"], {"unknown": 1}),
     (Policy.AGAIN, [Unknown(), "false exists", "true"],
      ["7 newcust 1 -> false exists", "7 newcust 2 -> true"], {"unknown": 1}),
-    (Policy.AGAIN, [Unknown(), Refused(), Refused(), Refused(), "true"],
+    (Policy.AGAIN, [Unknown("", "true"), Refused(), Refused(), Refused(), "true"],
      ["7 - newcust 1 -> ?", "1007 newcust 2 -> true"], {"pending": 1, "refused": 3}),
     (Policy.ASK, [Refused(), Refused(), Refused(), "true"], ["7 newcust 2 -> true"], {"given up": 1}),
 ]
@@ -151,6 +155,10 @@ def holds_tokens():
     recorder = record(session, ["newcust 1", "newcust 2"], Policy.ASK)
     outcomes = [session.outcome(call.token) for call in recorder.calls]
     want(outcomes == ["true", None], f"looked up: {outcomes}")
+    undetermined = ["7 - newcust 1 -> true", "1007 - newcust 2 -> true"]
+    want(texts(recorder) == undetermined, f"without a confirmed commit: {texts(recorder)}")
+    recorder = record(StoreSession(Memory(loses_replies=True)), ["newcust 1", "newcust 2", "bill 1"], Policy.LEAVE)
+    want(texts(recorder)[:2] == undetermined, f"without a confirmed commit of a store: {texts(recorder)}")
     want(session.outcome(recorder.calls[1].token) is None, "a token that was looked up is stored")
 
 

@@ -1,12 +1,12 @@
 #!/usr/bin/env python3
-"""Draws 2,000 small histories of a key-value store, some with damaged lines, pending calls and equal times,
-and compares the verdicts of the program kv_judge with those of a search that tries every order. Draws 2,000 more in
-which keys have drawn first values, some with a damaged start file, and 2,000 with transactions over several keys,
-half of them with first values, for whole stores of one or several classes of keys. Then gives it hostile input: a history and a start
-file cut at each byte, keys of all bytes, values of 1 MiB, a million keys and words, bytes that are no text, command
-lines that it must refuse, too little memory, an input that cannot be read, an output that cannot be written, more steps
-than there are. Its argument is the program vacation, beside whose crate that of kv_judge stands; with none it is the
-one that the last build left."""
+"""Draws 2,000 small histories of a key-value store, some with damaged lines, pending and undetermined calls and equal
+times, and compares the verdicts of the program kv_judge with those of a search that tries every order. Draws 2,000 more
+in which keys have drawn first values, some with a damaged start file, and 2,000 with transactions over several keys,
+half of them with first values, for whole stores of one or several classes of keys. Then gives it hostile input: a
+history and a start file cut at each byte, keys of all bytes, values of 1 MiB, a million keys and words, bytes that are
+no text, command lines that it must refuse, too little memory, an input that cannot be read, an output that cannot be
+written, more steps than there are. Its argument is the program vacation, beside whose crate that of kv_judge stands;
+with none it is the one that the last build left."""
 
 import os
 import random
@@ -175,7 +175,7 @@ def call_of(line, whole=False):
         if unquoted(reply) is None:
             return "bad-reply"
         reply = quoted(unquoted(reply))
-    if (end == NEVER) != (reply == b"?"):
+    if end < NEVER and reply == b"?":
         return "half-call"
     return client, begin, end, asked, reply
 
@@ -191,7 +191,7 @@ def has_order(calls, first=None, run=key_step):
     seen = set()
 
     def search(left, held):
-        if all(calls[i][4] == b"?" for i in left):
+        if all(calls[i][2] == NEVER for i in left):
             return True
         if (left, held) in seen:
             return False
@@ -282,7 +282,7 @@ def names_blocked(lines, calls):
     found = [calls[int(one[1]) - 1] for one in blocked]
     ends = [call[2] for call in found]
     return ends == sorted(ends) and all(
-        call[4] not in (b"?", one[2]) and quoted(call[5]) == first[2]
+        call[2] < NEVER and call[4] != one[2] and quoted(call[5]) == first[2]
         for call, one in zip(found, blocked)
     )
 
@@ -321,18 +321,21 @@ def drawn_calls(random, gone, most):
 
 def drawn_history(random, begins=False):
     """The text of a small history, most of whose replies are right in the order of its lines, and the values that keys
-    have at first, if it begins with some."""
+    have at first, if it begins with some. Calls without an end are pending or undetermined, and some took no effect."""
     keys, values, firsts = drawn_keys(random, 1, 3, begins)
     held, lines, gone = dict(firsts), [], set()
     for client, begin, end in drawn_calls(random, gone, 8):
         name, key, given = drawn_operation(random, keys, values)
-        held[key], reply = step(held.get(key), name, given)
+        after, reply = step(held.get(key), name, given)
         if random.random() < 0.2:
             reply = random.choice([b"-", b"ok", b"true", b"false", quoted(random.choice(values))])
         ended = b"%d" % end
-        if random.random() < 0.08:
+        if random.random() < 0.12:
             gone.add(client)
-            ended, reply = b"-", b"?" if random.random() < 0.95 else reply
+            after, ended, reply = random.choice([after, held.get(key)]), b"-", random.choice([b"?", reply])
+        elif random.random() < 0.01:
+            reply = b"?"
+        held[key] = after
         words = [b"%d" % client, b"%d" % begin, ended, name, quoted(key), *map(word_of, given), b"->", reply]
         lines.append(b" ".join(words))
     return b"".join(line + b"\n" for line in lines), firsts
@@ -352,7 +355,7 @@ def drawn_clauses(random, keys, values, held):
 
 def drawn_whole(random, begins):
     """The text of a small history with transactions over several keys, most of whose replies are right in the order of
-    its lines, and the values that keys have at first."""
+    its lines, and the values that keys have at first. Calls without an end are as in `drawn_history`."""
     every, values, firsts = drawn_keys(random, 2, 6, begins)
     pairs, lines, gone = frozenset(firsts.items()), [], set()
     # Keys of which most transactions touch only some, so that there are several classes.
@@ -364,13 +367,14 @@ def drawn_whole(random, begins):
         if random.random() < 0.7:
             asked = (b"txn", None, drawn_clauses(random, keys, values, dict(pairs)))
             words = [b"txn", *(word for role, key, value in asked[2] for word in (role, quoted(key), word_of(value)))]
-        pairs, reply = whole_step(pairs, asked)
+        after, reply = whole_step(pairs, asked)
         if random.random() < 0.15:
             reply = random.choice([b"-", b"ok", b"true", b"false", quoted(random.choice(values))])
         ended = b"%d" % end
-        if random.random() < 0.08:
+        if random.random() < 0.12:
             gone.add(client)
-            ended, reply = b"-", b"?"
+            after, ended, reply = random.choice([after, pairs]), b"-", random.choice([b"?", reply])
+        pairs = after
         lines.append(b" ".join([b"%d" % client, b"%d" % begin, ended, *words, b"->", reply]))
     return b"".join(line + b"\n" for line in lines), firsts
 

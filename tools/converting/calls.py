@@ -48,7 +48,7 @@ class Operation:
 @dataclass(frozen=True, slots=True)
 class Call:
     """A call, with the lines of the foreign history on which it began and returned. A pending call has neither an
-    end nor a reply, and its last line is the one on which it began."""
+    end nor a reply, and an undetermined call has no end. The last line of either is the one on which it began."""
     client: int
     begin: int
     end: int | None

@@ -16,7 +16,7 @@ EVENT_KINDS = {"call": "call", "callevent": "call", "invoke": "call", "return": 
 
 
 def is_left_out(operation: Operation, is_pending: bool, report: Report) -> bool:
-    """Whether a call has no effect and says nothing: a pending read, or a transaction of nothing."""
+    """Whether a call has no effect and says nothing: a read without an end, or a transaction of nothing."""
     if is_pending and operation.name in READS:
         report.skip("pending reads, which have no effect")
         return True
@@ -27,7 +27,7 @@ def is_left_out(operation: Operation, is_pending: bool, report: Report) -> bool:
 
 
 class Calls:
-    """Calls with times of their own. Whoever leaves a call pending and makes another counts as a new client."""
+    """Calls with times of their own. Whoever leaves a call without an end and makes another counts as a new client."""
 
     def __init__(self, report: Report) -> None:
         self.report = report
@@ -81,11 +81,13 @@ def json_calls(text: str, options: Options, report: Report) -> list[Call]:
         end = None if fields.get("end") is None else fields.number("end")
         if _is_failed(fields, report):
             continue
-        if end is None and (fields.get("reply") is not None or fields.get("reads") is not None):
-            raise Fault("half-call", fields.line, "a reply without an end")
+        has_reply = end is not None or fields.get("reply") is not None
+        if not has_reply and fields.get("reads") is not None:
+            raise Fault("half-call", fields.line, "reads without an end and a reply")
         if end is None:
-            report.assume("a call without an end is pending")
-        reply = None if end is None else read_reply(operation, fields.get("reply"), options, fields.line)
+            report.assume("a call with a reply and without an end took effect with this reply or not at all"
+                          if has_reply else "a call without an end is pending")
+        reply = read_reply(operation, fields.get("reply"), options, fields.line) if has_reply else None
         calls.add(fields, who, with_reads(operation, fields), (begin, end), reply)
     return calls.numbered()
 

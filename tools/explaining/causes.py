@@ -99,7 +99,8 @@ def _repairs(calls: list[Call], wrong: Call) -> Iterator[tuple[Cause, list[Call]
         if parts is not None:
             for cause, other in _trip_repairs(call, parts):
                 yield cause, changed(other)
-        if call.task.name in ("trip", "reserve", "add", "del", "update"):
+        # A second effect of an undetermined call may be its only one.
+        if call.is_complete and call.task.name in ("trip", "reserve", "add", "del", "update"):
             again = replace(call, task=_booking_again(call, parts), reply=None, end=NEVER, client=-2)
             yield Cause(Fault.TWICE, call, "took effect twice"), [*calls, again]
 

@@ -61,8 +61,7 @@ def _write(options: argparse.Namespace, explained: list[Finding], history: Histo
     """Writes the files that were asked for, and returns a line that names them."""
     finding, texts = explained[0], {}
     if options.small:
-        # A case in which all undetermined calls took effect is the last of its state.
-        texts[options.small] = "\n".join(finding.logs()[-1]) + "\n"
+        texts[options.small] = "\n".join(finding.logs()[0]) + "\n"
     if options.work:
         texts[options.work] = "\n".join(_work(finding, history)) + "\n"
     if options.html or options.svg:

@@ -13,7 +13,7 @@ from .causes import Cause, Fault, causes_of
 from .history import History, Progress
 from .levels import LINEARIZABLE, SEQUENTIAL, SERIALIZABLE, Levels, levels_of, timeless
 from .names import UNKNOWN, DeadEnd, Kind, dead_ends, name
-from .parts import Bookings, cases, cut
+from .parts import Bookings, cut
 from .program import Program, is_illegal, opening_tasks
 from .reduction import Contradiction, Part, few_calls
 from .search import Search, TooManyPositions
@@ -21,8 +21,8 @@ from .tasks import NEVER, Call, Item, is_read_only
 
 # Contradictions that are explained, and seconds after which no further one is begun.
 MOST_EXPLAINED, MOST_SECONDS = 12, 8
-# More calls than a reader follows.
-MANY = 8
+# More calls than a reader follows, and more choices of the state before and of undetermined calls.
+MANY, MANY_CHOICES = 8, 4
 # Contradictions that are looked for.
 MOST_FOUND = 1_000
 # A contradiction that only the whole history shows is looked for among so many calls.
@@ -65,13 +65,17 @@ class Finding:
         verdicts = self.part_verdicts + self.few_verdicts
         return bool(verdicts) and all(map(is_illegal, verdicts))
 
+    @property
+    def choices(self) -> int:
+        """Number of cases for a reader: the states before the calls, and undetermined calls took effect or not."""
+        return len(self.few.openings) << sum(call.is_undetermined for call in self.few.calls)
+
     def logs(self) -> list[list[str]]:
-        """The few calls as histories, one for each state before them and each choice of undetermined calls; times
-        count from the first call."""
+        """The few calls as histories, one for each state before them; times count from the first call."""
         zero = min(call.begin for call in self.calls) - 1
         shifted = [replace(call, begin=call.begin - zero, end=call.end - zero if call.is_complete else NEVER)
                    for call in self.calls]
-        return [history_lines(opening, case) for opening in self.few.openings for case in cases(shifted)]
+        return [history_lines(opening, shifted) for opening in self.few.openings]
 
 
 def history_lines(opening: dict, calls: Iterable[Call]) -> list[str]:
@@ -235,14 +239,13 @@ def _prove(finding: Finding, history: History, program: Program, log: Path) -> N
 def confirm(finding: Finding, program: Program) -> None:
     """Has the program judge the part and the few calls, and the few calls without their times."""
     blocks = finding.few.blocks
-    finding.part_verdicts = [program.judge((call.line() for call in case), blocks)
-                             for case in cases(finding.found.part.calls)]
+    finding.part_verdicts = [program.judge((call.line() for call in finding.found.part.calls), blocks)]
     finding.few_verdicts = [program.judge(lines, blocks) for lines in finding.logs()]
     if finding.is_confirmed:
         finding.sure.add(LINEARIZABLE)
     for level, keeps_clients in ((SEQUENTIAL, True), (SERIALIZABLE, False)):
-        verdicts = [program.judge(history_lines(opening, case), blocks) for opening in finding.few.openings
-                    for case in cases(timeless(finding.few.calls, keeps_clients))]
+        calls = timeless(finding.few.calls, keeps_clients)
+        verdicts = [program.judge(history_lines(opening, calls), blocks) for opening in finding.few.openings]
         if finding.levels.allowed[level] is False and all(map(is_illegal, verdicts)) \
                 or finding.levels.allowed[level] and any(verdict.startswith("legal") for verdict in verdicts):
             finding.sure.add(level)
@@ -267,7 +270,7 @@ def findings(history: History, blocks: int, program: Program, log: Path | None =
         if explained and time.monotonic() > until:
             break
     return sorted(explained, key=lambda one: (one.kind.name == UNKNOWN, len(one.few.calls) > 6,
-                                              len(one.few_verdicts) > 4, one.found.call.end)), found
+                                              one.choices > MANY_CHOICES, one.found.call.end)), found
 
 
 def kinds(explained: Iterable[Finding]) -> Counter:

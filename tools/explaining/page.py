@@ -76,7 +76,8 @@ class Article:
                 ' aria-label="Calls over time. Keys: plus and minus zoom, arrows move, zero shows all.">'
                 f'<div class="lane" aria-hidden="true"><span></span><div class="track ticks">{head}</div></div>{lanes}'
                 '</div><p class="soft">Tall bars are the calls of the contradiction; ✗ marks the first wrong answer.'
-                " A dashed end: the call was still running, so it took effect or not. Thin bars are other calls that"
+                " A dashed end: the call was still running, or the log has no end of it, so it took effect or not."
+                " Thin bars are other calls that"
                 " name the same customers or items.</p></div>")
 
     def _gaps(self) -> str:
@@ -111,8 +112,7 @@ class Article:
             told = self._told(call)
             mark = ' <b class="bad">✗ the first wrong answer</b>' if self._is_wrong(call) else ""
             when = duration(call.begin - self.timeline.zero)
-            ran = f"ran for {duration(call.end - call.begin)}" if call.is_complete else \
-                "was still running: it took effect or not"
+            ran = f"ran for {duration(call.end - call.begin)}" if call.is_complete else told.unended()
             lines.append(f'<li class="{"wrong" if self._is_wrong(call) else ""}"><b>{call.number}</b> (client'
                          f" {told.whole.client}, begins at {when}, {ran}){mark}<br><code>{escape(told.task())} → "
                          f"{escape(told.answer())}</code></li>")
@@ -165,9 +165,9 @@ class Article:
         return ("<h3>The smallest run that shows it</h3><p>Client 0 makes the state before; then come the calls, with"
                 " what matters of them. Times count from the first call.</p>"
                 f'<div class="row"><button data-copy="{name}">Copy</button></div><pre id="{name}" tabindex="0">'
-                + escape("\n".join(self.finding.logs()[-1])) + "</pre><p><code>vacation judge --any-order --blocks"
+                + escape("\n".join(self.finding.logs()[0])) + "</pre><p><code>vacation judge --any-order --blocks"
                 f" {self.finding.few.blocks or MOST_BLOCKS} &lt; FILE</code> says: <code>"
-                f"{escape(self.finding.few_verdicts[-1])}</code></p>")
+                f"{escape(self.finding.few_verdicts[0])}</code></p>")
 
     def _claims(self) -> str:
         customers = [f"customer {one}" for one in sorted(self.finding.found.customers)]

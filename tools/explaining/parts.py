@@ -11,8 +11,8 @@ if the item is *closed*: all customers who may ever have booked it belong to the
 scope has all items that the bill may hold. `full` depends on all entries and is never kept.
 
 Not proved: that the part of a legal history is legal rests on this argument and on tests/explain.py. The program's
-subcommand `part` writes parts with a proof. They say less: these here follow a call that never returned, and take a
-bill on the items that its customer may have booked since it last had none."""
+subcommand `part` writes parts with a proof. They say less: these here follow a pending call, and take a bill on the
+items that its customer may have booked since it last had none."""
 
 from __future__ import annotations
 
@@ -30,9 +30,6 @@ MOST_ID = 4_294_967_295
 MOST_PRICE = 1_000_000
 # Clients of calls that are not bound to the order of their client any more.
 FIRST_FREE_CLIENT = 4_000_000_000
-LAST_CLIENT = 4_294_967_295
-# Number of undetermined calls of which each choice is a case; the others count as never returned.
-MOST_UNDETERMINED = 5
 
 
 def changed_bookings(call: Call) -> list[Item]:
@@ -162,8 +159,8 @@ class Scope:
     # ---- parts of calls
 
     def part(self, call: Call) -> list[Call]:
-        """The part of a call: at most one call. A call that never returned gives several, each of which may have
-        taken effect or not."""
+        """The part of a call: at most one call. A pending call gives several, each of which may have taken effect or
+        not. An undetermined call stays one, with the part of its reply."""
         if call.reply is None:
             return [replace(call, task=task) for task in self._pending(call.task)]
         if call.task.name in ("bill", "leave"):
@@ -252,7 +249,7 @@ class Scope:
         return updated([change for change, _ in kept], [word for _, word in kept])
 
     def _pending(self, task: Task) -> list[Task]:
-        """Tasks of which some, or none, may have done what a call did that never returned."""
+        """Tasks of which some, or none, may have done what a pending call did."""
         has_customer = task.customer in self.customers
         match task.name:
             case "add" | "del":
@@ -295,7 +292,7 @@ def probe(items: list[Item], is_there: bool) -> Answer:
 
 
 def project(calls: Iterable[Call], scope: Scope) -> list[Call]:
-    """The part of a history. What is left of calls that never returned belongs to clients of their own."""
+    """The part of a history. What is left of pending calls belongs to clients of their own."""
     found, client = [], FIRST_FREE_CLIENT
     for call in calls:
         for part in scope.part(call):
@@ -317,23 +314,4 @@ def cut(calls: Iterable[Call], time: int) -> list[Call]:
             found.append(call)
         elif not is_read_only(call):
             found.append(replace(call, end=NEVER))
-    return found
-
-
-def cases(calls: list[Call]) -> list[list[Call]]:
-    """Histories without undetermined calls, of which one is legal if the calls are. An undetermined call that took
-    effect returned when the last call did."""
-    undetermined = [place for place, call in enumerate(calls) if call.is_undetermined]
-    chosen, vague = undetermined[:MOST_UNDETERMINED], undetermined[MOST_UNDETERMINED:]
-    last = max((call.end for call in calls if call.is_complete), default=0)
-    found = []
-    for choice in range(1 << len(chosen)):
-        left_out = {place for bit, place in enumerate(chosen) if not choice >> bit & 1}
-        case = []
-        for place, call in enumerate(calls):
-            if place in vague:
-                case.append(replace(call, client=LAST_CLIENT - place, reply=None))
-            elif place not in left_out:
-                case.append(replace(call, end=max(last, call.begin)) if call.is_undetermined else call)
-        found.append(case)
     return found

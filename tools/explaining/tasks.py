@@ -56,8 +56,8 @@ class Task:
 class Call:
     """A call of a history: the number of its line, its client, its stamps, its task and its reply.
 
-    A call that never returned has no reply and the end `NEVER`. An *undetermined* call has a reply and the end
-    `NEVER`: the history was cut while the call ran, so the call took effect with this reply or not at all."""
+    A pending call has no reply and the end `NEVER`. An *undetermined* call has a reply and the end `NEVER`: the call
+    took effect with this reply or not at all. The log says so, or the history was cut while the call ran."""
     number: int
     client: int
     begin: int
@@ -75,9 +75,8 @@ class Call:
 
     def line(self) -> str:
         """The line of the call in a history."""
-        if self.reply is None:
-            return f"{self.client} {self.begin} - {self.task.line()} -> ?"
-        return f"{self.client} {self.begin} {self.end} {self.task.line()} -> {self.reply}"
+        end = self.end if self.is_complete else "-"
+        return f"{self.client} {self.begin} {end} {self.task.line()} -> {'?' if self.reply is None else self.reply}"
 
     def overlaps(self, other: Call) -> bool:
         """Returns whether the calls ran at the same time."""
@@ -144,8 +143,8 @@ def read_call(number: int, line: str) -> Call:
     if not arrow or len(words) < 4 or not words[0].isdecimal() or not words[1].isdecimal():
         raise BadLine(f"line {number}")
     if words[2] == "-":
-        return Call(number, int(words[0]), int(words[1]), NEVER, read_task(words[3]), None)
-    if not words[2].isdecimal() or len(words[2]) > MOST_STAMP_DIGITS:
+        return Call(number, int(words[0]), int(words[1]), NEVER, read_task(words[3]), None if reply == "?" else reply)
+    if not words[2].isdecimal() or len(words[2]) > MOST_STAMP_DIGITS or reply == "?":
         raise BadLine(f"line {number}")
     return Call(number, int(words[0]), int(words[1]), int(words[2]), read_task(words[3]), reply)
 

@@ -57,6 +57,12 @@ class Told:
         return "update " + _shortened([change.line() for change in task.changes],
                                       [change in changes for change in task.changes], " ; ")
 
+    def unended(self) -> str:
+        """Why the part has no end, and what is known of its effect."""
+        if self.whole.is_undetermined:
+            return "has no end in the log: it took effect with this answer or not at all"
+        return "was still running: it took effect or not"
+
     def answer(self, reply: str | None = None) -> str:
         """The reply, or another reply to the part."""
         reply = self.part.reply if reply is None else reply

@@ -53,8 +53,8 @@ class Client:
             try:
                 reply = self._call(lines[position], f"{self._seat.number}-{position}", is_unknown)
                 self._send(Completed(self._end(), reply))
-            except Unknown:
-                self._send(GivenUp(True))
+            except Unknown as unknown:
+                self._send(GivenUp(True, unknown.reply))
             except (Lost, Refused, Damaged):
                 self._send(GivenUp(False))
             begin, is_unknown = None, False
@@ -79,7 +79,7 @@ class Client:
 
     def _call(self, line: str, token: str, is_unknown: bool) -> str:
         """Tries a task until it has a reply. Raises `Unknown` if it is given up and a try may have taken
-        effect, and otherwise how the last try ended."""
+        effect, with the reply if there is one such try, and otherwise how the last try ended."""
         policy, refusals, limit = self._behaviour.policy, 0, None
         used = token if policy.has_tokens and not is_read(line) else None
         while True:

@@ -13,7 +13,12 @@ class Lost(Exception):
 
 
 class Unknown(Lost):
-    """The connection ended during the commit: the transaction may have taken effect."""
+    """The connection ended during the commit: the transaction may have taken effect. If it did, it gave this reply;
+    none if the reply is not known either."""
+
+    def __init__(self, why: str = "", reply: str | None = None):
+        super().__init__(why)
+        self.reply = reply
 
 
 class Damaged(Exception):

@@ -6,7 +6,7 @@ from enum import Enum
 
 from harness.tasks import is_read
 
-# Client k goes on as client k + STRIDE after a pending call, which must be its client's last.
+# Client k goes on as client k + STRIDE after a call without an end, which must be its client's last.
 STRIDE = 1000
 
 
@@ -38,8 +38,8 @@ class Mistake(Enum):
 
 @dataclass(frozen=True)
 class Call:
-    """A call with readings of the clock before its first try and after its reply; without an end and a reply
-    if nobody knows whether it took effect."""
+    """A call with readings of the clock before its first try and after its reply. It has no end if nobody knows
+    whether it took effect. If it has a reply all the same, it took effect with this reply or not at all."""
     client: int
     begin: int
     end: int | None
@@ -48,9 +48,8 @@ class Call:
     token: str = ""
 
     def __str__(self) -> str:
-        if self.end is None:
-            return f"{self.client} {self.begin} - {self.line} -> ?"
-        return f"{self.client} {self.begin} {self.end} {self.line} -> {self.reply}"
+        end, reply = "-" if self.end is None else self.end, "?" if self.reply is None else self.reply
+        return f"{self.client} {self.begin} {end} {self.line} -> {reply}"
 
 
 # Messages of a client, in the order in which they may come for one call.
@@ -83,8 +82,10 @@ class Completed:
 
 @dataclass(frozen=True)
 class GivenUp:
-    """The call is not tried any more; its outcome is unknown or it had no effect."""
+    """The call is not tried any more; its outcome is unknown or it had no effect. If it took effect, it gave the reply,
+    unless that is not known either."""
     is_unknown: bool
+    reply: str | None = None
 
 
 @dataclass(frozen=True)
@@ -143,8 +144,8 @@ class Recorder:
                 self.calls.append(Call(self.seat.client, self.seat.begin, end, self._line, reply))
                 self.counts["completed"] += 1
                 self._next()
-            case GivenUp(is_unknown):
-                self._give_up(is_unknown)
+            case GivenUp(is_unknown, reply):
+                self._give_up(is_unknown, reply)
             case Over():
                 self.is_over = True
 
@@ -160,12 +161,12 @@ class Recorder:
         if self.seat.is_unknown and not self.policy.retries:
             self._give_up(True)
 
-    def _give_up(self, is_unknown: bool) -> None:
+    def _give_up(self, is_unknown: bool, reply: str | None = None) -> None:
         if is_unknown:
             self.counts["pending"] += 1
             if self.mistake is not Mistake.FORGET:
                 self.calls.append(
-                    Call(self.seat.client, self.seat.begin, None, self._line, None, self.seat.token))
+                    Call(self.seat.client, self.seat.begin, None, self._line, reply, self.seat.token))
             if self.mistake is not Mistake.SAME_CLIENT:
                 self.seat.incarnation += 1
         else:

@@ -17,7 +17,7 @@ MIDWAY_PAUSE = 0.004
 
 class Session(ABC):
     """A connection that runs tasks. Each call may raise `Refused`, `Lost`, `Unknown` or `Damaged`; a task that
-    only reads has no token, and is never unknown.
+    only reads has no token, and is never unknown. `Unknown` has the reply, which is known before the commit.
     `before_commit` is called immediately before the request that may take effect: a client that is killed
     earlier has certainly left no effect."""
 
@@ -56,7 +56,7 @@ class SqlSession(Session):
         if is_known:
             self._connection.rollback()
         else:
-            self._commit(is_read(line))
+            self._commit(is_read(line), reply)
         return reply
 
     def _run(self, line: str, token: str | None) -> tuple[str, bool]:
@@ -73,7 +73,7 @@ class SqlSession(Session):
             self._store(token, reply)
         return reply, False
 
-    def _commit(self, has_no_effect: bool) -> None:
+    def _commit(self, has_no_effect: bool, reply: str) -> None:
         self.before_commit()
         try:
             self._connection.commit()
@@ -83,7 +83,7 @@ class SqlSession(Session):
         except Lost as lost:
             if has_no_effect:
                 raise
-            raise Unknown(str(lost)) from lost
+            raise Unknown(str(lost), reply) from lost
 
     def outcome(self, token: str) -> str | None:
         self._connection.begin()
@@ -136,16 +136,16 @@ class StoreSession(Session):
         except Refused:
             self._store.abandon()
             raise
-        self._commit(rules.changes())
+        self._commit(rules.changes(), reply)
         return reply
 
-    def _commit(self, changes: dict[str, str | None]) -> None:
+    def _commit(self, changes: dict[str, str | None], reply: str) -> None:
         self.before_commit()
         try:
             self._store.commit(changes)
         except Unknown as unknown:
             if changes:
-                raise
+                raise Unknown(str(unknown), reply) from unknown
             raise Lost(str(unknown)) from unknown
 
     def outcome(self, token: str) -> str | None:
