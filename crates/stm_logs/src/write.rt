@@ -119,17 +119,6 @@ impl<A: Allocator + Copy> WriteLog<A> {
         self.get(addr).is_some() || self.has_lock(lock)
     }
 
-    /// Returns the number of locks of the addresses.
-    #[inline]
-    pub fn lock_count(&self) -> usize
-        ensures { result ≡ length (log_locks self.now) }
-    {
-        self.few_locks();
-        // Read so that the prover knows its range.
-        let _most = self.len();
-        self.locks().count()
-    }
-
     /// Returns the locks of the addresses in ascending order, each once.
     ///
     /// Not said: that the walk is linear, and that the walks of a put, of `has_lock` and of
@@ -146,19 +135,6 @@ impl<A: Allocator + Copy> WriteLog<A> {
                 most: 0,
             },
         }
-    }
-
-    /// Returns the lock at index `i` of the ascending order. The search starts from the first
-    /// lock, so a walk over all locks uses `locks`.
-    pub fn nth_lock(&self, i: usize) -> u32
-        requires { i < length (log_locks self.now) }
-        ensures { result ≡ slice_index (log_locks self.now) i }
-    {
-        let mut locks = self.locks();
-        for _ in 0..i {
-            let _ = locks.next();
-        }
-        locks.next().unwrap()
     }
 
     /// Returns the addresses of a lock with their values, by ascending address.

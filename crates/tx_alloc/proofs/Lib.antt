@@ -5,7 +5,6 @@ mod Taking
 mod Walking
 mod Refilling
 mod Giving
-mod Written
 pub mod Empty
 mod Spreading
 pub mod Spread

@@ -15,7 +15,7 @@ mod refill;
 mod rows;
 
 pub use block::Block;
-pub use fresh::{fresh_words, spread_words};
+pub use fresh::spread_words;
 pub use list::FreeList;
 pub use pool::{give, take};
 pub use refill::take_refilling;

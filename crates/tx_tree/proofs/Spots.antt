@@ -11,7 +11,7 @@ use Rattle.tx_alloc.specs.Rows.{Rows, times, block_at, AllBelow, IsFrom}
 use Rattle.tx_tree.specs.Tree.{Tree, node, rows, IsEven, IsApart, is_red}
 use Rattle.tx_tree.specs.Way.{Way, top, step, plug, depth, front, behind}
 use Rattle.tx_tree.specs.Hangs.{off, link_of, Zip}
-use Rattle.tx_tree.specs.Table.{Table, HasTable, IsInside, FoundRow, FoundAt, row_above, NextFound}
+use Rattle.tx_tree.specs.Table.{Table, HasTable, IsInside, FoundRow, FoundAt}
 use Rattle.tx_alloc.specs.Pointer.{LeadsToBlock}
 use Rattle.tx_tree.specs.Steps.{Reached}
 use Rattle.tx_tree.proofs.Shapes.{rows_plug, depth_plug}
@@ -162,24 +162,6 @@ spot_none m n root key link d next rs h z =
     let r = spot_leaf m n root key key link d next rs h z in
     sym (rw r (none_between (front h.way) (behind h.way) key h.below h.above))
 
-above_first : (lo : ℕ) (ys : Rows) (key : ℕ) → key < lo → IsFrom lo ys → row_above ys key ≡ first_row ys
-above_first lo [] key l g = refl
-above_first lo (y ∷ ys) key l g =
-    let t : nat_lt key y.0 ≡ true = grind (arith, nat_tests, g.0) in rw t refl
-
-above_between : (xs ys : Rows) (key : ℕ) → AllBelow (key + 1) xs → IsFrom (key + 1) ys →
-    row_above (xs ++ ys) key ≡ first_row ys
-above_between [] ys key h g = above_first (key + 1) ys key (omega arith) g
-above_between (x ∷ xs) ys key h g =
-    let t : nat_lt key x.0 ≡ false = grind (arith, nat_tests, h.0) in
-    rw t (above_between xs ys key h.1 g)
-
-spot_above : (m : ℕ → ℕ) (n root key link d : ℕ) (next : Option (ℕ × ℕ)) (rs : Rows) →
-    Spot m n root (key + 1) key link d next rs → m link ≡ 0 → row_above rs key ≡ next
-spot_above m n root key link d next rs h z =
-    let r = spot_leaf m n root (key + 1) key link d next rs h z in
-    rw r (above_between (front h.way) (behind h.way) key h.below h.above) ∙ h.next_is
-
 -- the same under every image that there may be, and only reads were made
 pub record Descending (s s' : View) (root lo key link d : ℕ) (next : Option (ℕ × ℕ)) : Type 0 where
   pub kept : Kept s s'
@@ -291,16 +273,6 @@ found_here s0 s s1 s2 root key link d p found next k r ne l e = record {
   inside = (let at = r.room ne in (omega (arith, at.0), omega (arith, at.1, l.kept.size)));
 }
 
-pub next_found : (s0 s s1 : View) (root key link d p : ℕ) (next : Option (ℕ × ℕ)) →
-    Descending s0 s root (key + 1) key link d next → Reached s s1 link p → p ≡ 0 → NextFound s0 s1 root key next
-next_found s0 s s1 root key link d p next k r z = record {
-  kept = kept_both s0 s s1 k.kept r.loaded.kept;
-  writes = r.loaded.writes ∙ k.writes;
-  is = λ image rs i t. spot_above (mem s0 image) (length image) root key link d next rs
-      (k.spot image rs (r.loaded.kept.seen image i) t) (at_start s0 s s1 link p k.writes r.loaded image i ∙ z);
-  inside = inside_same s.size s1.size next r.loaded.kept.size k.inside;
-}
-
 -- no way is as long as that
 pub found_deep : (s0 s : View) (root key link d : ℕ) (next : Option (ℕ × ℕ)) →
     Descending s0 s root key key link d next → 37 ≤ d → FoundRow s0 s root key 0
@@ -311,20 +283,6 @@ found_deep s0 s root key link d next k l = record {
     arith,
     l,
     spot_low (mem s0 image) (length image) root key key link d next rs
-        (k.spot image rs i t) t.few,
-  ));
-}
-
-pub next_deep : (s0 s : View) (root key link d : ℕ) (next : Option (ℕ × ℕ)) →
-    Descending s0 s root (key + 1) key link d next → 37 ≤ d → NextFound s0 s root key next
-next_deep s0 s root key link d next k l = record {
-  kept = k.kept;
-  writes = k.writes;
-  inside = k.inside;
-  is = λ image rs i t. absurd (omega (
-    arith,
-    l,
-    spot_low (mem s0 image) (length image) root (key + 1) key link d next rs
         (k.spot image rs i t) t.few,
   ));
 }

@@ -1,10 +1,9 @@
 -- A table by key. Other crates use the lemmas on IsTable alone, and not its fields.
-use Rattle.std.specs.Prelude.{◌≡◌, ◌≢◌, ℕ, ◌+◌, ◌<◌, ◌≤◌, ◌^◌, List, [], ◌∷◌, length, false, cond, nat_lt, zero, suc, MatchOption, Option, Some, None}
+use Rattle.std.specs.Prelude.{◌≡◌, ◌≢◌, ℕ, ◌+◌, ◌<◌, ◌≤◌, ◌^◌, List, [], ◌∷◌, length, false, zero, suc}
 use Rattle.tx_memory.specs.View.{View, Sees, RestsOn, Kept}
 use Rattle.tx_alloc.specs.Pool.{IsBlock}
 use Rattle.tx_alloc.specs.declared.place.TheConstants.{FIRST_BLOCK, BLOCK_WORDS, MOST_BLOCKS}
 use Rattle.tx_alloc.specs.Steps.{mem}
-use Rattle.tx_tree.specs.declared.search.Entry.{Entry}
 use Rattle.tx_alloc.specs.Rows.{Rows, times, put_row, cut_row, block_at, Relinks, IsFrom}
 use Rattle.tx_tree.specs.Tree.{Tree, rows, IsEven, IsApart, is_red}
 use Rattle.tx_tree.specs.Hangs.{Hangs}
@@ -60,24 +59,6 @@ pub record FoundRow (s s' : View) (root key p : ℕ) : Type 0 where
 pub record FoundAt (s s' : View) (root key b : ℕ) : Type 0 where
   pub found : FoundRow s s' root key b
   pub inside : IsInside s'.size b
-
--- the row of an entry, if there is one
-abbrev pub row_of : Option Entry → Option (ℕ × ℕ)
-row_of None = None
-row_of (Some entry) = Some (entry.key, entry.block)
-
--- the first row whose key is above this key, if there is one
-abbrev pub row_above : Rows → ℕ → Option (ℕ × ℕ)
-row_above [] key = None
-row_above (r ∷ rs) key = cond (nat_lt key r.0) (Some r) (row_above rs key)
-
--- only reads were made, and the result is the row of the least key above this key, if there is one
-pub record NextFound (s s' : View) (root key : ℕ) (next : Option (ℕ × ℕ)) : Type 0 where
-  pub kept : Kept s s'
-  pub writes : s'.writes ≡ s.writes
-  pub is : (image : List ℕ) (rs : Rows) → Sees s' image →
-      Table (mem s image) (length image) root rs → row_above rs key ≡ next
-  pub inside : MatchOption next (Unit {0}) (λ r. IsInside s'.size r.1)
 
 -- b is a block whose first word is this key, and no row has the key
 pub record Fresh (m : ℕ → ℕ) (n : ℕ) (rs : Rows) (key b : ℕ) : Type 0 where

@@ -24,5 +24,5 @@ mod walk;
 pub use insertion::insert;
 pub use laws::height_is_logarithmic;
 pub use removal::remove;
-pub use search::{Entry, find, least_above};
+pub use search::find;
 pub use walk::Walk;

@@ -1,7 +1,7 @@
 //! Searching a table by key.
 
 ghost use Rattle.std.specs.Prelude.{◌≡◌, IfOk, IfErr, MatchOption};
-ghost use Rattle.tx_tree.specs.Table.{HasTable, FoundRow, FoundAt, NextFound, row_of};
+ghost use Rattle.tx_tree.specs.Table.{HasTable, FoundRow, FoundAt};
 ghost use Rattle.tx_tree.specs.Steps.{SoughtKey};
 ghost use Rattle.tx_tree.specs.Lowest.{HasSpan, Lowest};
 
@@ -10,13 +10,6 @@ use crate::path::{LEVELS, Path};
 use crate::place::{LEFT, RIGHT};
 use tx_alloc::Block;
 use tx_memory::{Addr, TxRead, load};
-
-/// An entry of a table: its key and its block.
-#[derive(Clone, Copy, Debug, PartialEq, Eq)]
-pub struct Entry {
-    pub key: u64,
-    pub block: Block,
-}
 
 /// Returns the block of a key in the table at `root`, if the table has the key. Bounded loop: the
 /// prover needs a measure; a way down has at most 36 nodes.
@@ -43,40 +36,6 @@ pub fn find<M: TxRead>(memory: &mut M, root: Addr, key: u64) -> Result<Option<Bl
         link = node + side;
     }
     Ok(None)
-}
-
-/// Returns the entry with the least key greater than `key` in the table at `root`, if there is
-/// one. Bounded loop: the prover needs a measure; a way down has at most 36 nodes.
-pub fn least_above<M: TxRead>(
-    memory: &mut M,
-    root: Addr,
-    key: u64,
-) -> Result<Option<Entry>, M::Stop>
-    requires table { HasTable (M.view memory.old) root.0 }
-    ensures origin { M.origin memory.new ≡ M.origin memory.old }
-    ensures answer { IfOk result (λ next.
-        NextFound (M.view memory.old) (M.view memory.new) root.0 key (row_of next)) }
-    ensures stopped { IfErr result (λ stop. M.stopped_for memory.new stop) }
-{
-    let mut link = root.0;
-    let mut least = None;
-    for _ in 0..LEVELS {
-        let node = load_node(memory, link)?;
-        if node == 0 {
-            return Ok(least);
-        }
-        let found = load(memory, Addr(node))?;
-        if key < found {
-            least = Some(Entry {
-                key: found,
-                block: Block(Addr(node)),
-            });
-            link = node + LEFT;
-        } else {
-            link = node + RIGHT;
-        }
-    }
-    Ok(least)
 }
 
 /// Searches for a key, and records the links of the way down in `path`. Returns the number of
