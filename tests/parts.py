@@ -1,5 +1,5 @@
 """Parts of histories as the subcommand `part` must write them, by trying which items can be closed and which customers
-whole, and parts of cuts (`part --until`). Written from crates/judge_part/specs, crates/judge_levels/specs and
+whole, and parts of cuts (`part --until`). Written from crates/judge_reservations/specs, crates/judge_object/specs and
 crates/judge_part_text/specs, apart from the parts of tools/explaining."""
 
 from dataclasses import dataclass, replace

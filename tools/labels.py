@@ -16,9 +16,9 @@ LABEL = re.compile(r"(?:clause (?:`(?P<clause>\w+)` )?of (?P<owner>\w+::)?(?P<fu
 
 # A crate, and a line of a plant of it that names nothing.
 STALE = [
-    ("stm_words", "clause of the version's new"),
-    ("stm_words", "clause of Version::free"),
-    ("stm_words", "clause `free` of Version::new"),
+    ("stm_core", "clause of the version's new"),
+    ("stm_core", "clause of Version::free"),
+    ("stm_core", "clause `free` of Version::new"),
     ("ex_bank", "clause `told` of Move::run: its trait has no such clause"),
     ("tx_memory", "clause `heard` of Observed: it has no such ghost field"),
     ("cli_main", "row test_cli: writes_that_fail"),

@@ -13,8 +13,8 @@ use Rattle.judge_calls.specs.HeldReading.{IsReadWhole, HasChecked, HasStoppedChe
 use Rattle.judge_calls.specs.AnyOrder.{HasCheckedOrder, HasStoppedCheckingOrder}
 use Rattle.vac_lines.specs.declared.stream_fault.StreamFault.{StreamFault}
 use Rattle.vac_lines.specs.declared.stream_fault.StreamFault.TheVariants as stream
-use Rattle.judge_levels.specs.declared.level.Level.{Level}
-use Rattle.judge_levels.specs.declared.level.Level.TheVariants as level
+use Rattle.judge_object.specs.declared.level.Level.{Level}
+use Rattle.judge_object.specs.declared.level.Level.TheVariants as level
 use Rattle.judge_linear.specs.declared.ordering.Outcome.{Outcome}
 use Rattle.judge_linear.specs.declared.ordering.Outcome.TheVariants as outcome
 use Rattle.judge_linear.specs.Ordering.{FindsText, HasText, HasOrdered}
@@ -28,7 +28,7 @@ use Rattle.cli_main.specs.Judging.{JudgesHeld, JudgesWith, JudgeStopped, WorkSto
 use Rattle.cli_main.specs.Ordering.{OrderStopped, FindsNone, HasRefusedInPart, OrderWorkStopped, HoldsOrder}
 use Rattle.cli_main.specs.Ordering.{HoldsText, HoldsInAnyOrder, JudgesText}
 use Rattle.cli_main.specs.Ordering.{JudgesAnyOrder, JudgesAnyHeld, JudgesAnyWith, status_of}
-use Rattle.cli_options.specs.declared.asked.JudgeSettings.{JudgeSettings}
+use Rattle.cli_main.specs.declared.asked.JudgeSettings.{JudgeSettings}
 use Rattle.cli_main.specs.Asking.{AttemptsStopped, PlacingStopped, JudgesAs, JudgesUnless, JudgesAsked}
 use Rattle.cli_main.specs.Asking.{is_refused}
 use Rattle.cli_main.specs.Parting.{PartStopped, CutStopped}

@@ -5,10 +5,12 @@
 //! below.
 #![tactic(auto)]
 
+mod asked;
 mod files;
 mod judging;
 mod keeping;
 mod load;
+mod options;
 mod parting;
 mod program;
 mod reporting;

@@ -14,9 +14,9 @@ use crate::bodies::{AddUp, Move};
 use crate::law::{ACCOUNTS, BankObject};
 use std::alloc::Global;
 use stm_attempt::Stop;
+use stm_core::Version;
 use stm_object::{Caller, Shared, User};
 use stm_region::RegionFault;
-use stm_words::Version;
 
 /// A bank, used by many tellers at once.
 pub type Bank = Shared<BankObject>;

@@ -1,6 +1,6 @@
 -- The range of the settings of the desks.
 use Rattle.std.specs.Prelude.{Bool, ◌&&◌, nat_le, nat_lt}
-use Rattle.stm_words.specs.declared.version.TheConstants.{VERSION_LIMIT}
+use Rattle.stm_core.specs.declared.version.TheConstants.{VERSION_LIMIT}
 use Rattle.vac_model.specs.declared.limits.TheConstants.{MOST_BLOCKS, MOST_AMOUNT}
 use Rattle.vac_manager.specs.Called.{is_try_count}
 use Rattle.ex_desk.specs.declared.settings.DeskSettings.{DeskSettings}

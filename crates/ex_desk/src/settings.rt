@@ -3,8 +3,7 @@
 ghost use Rattle.std.specs.Prelude.{◌≡◌};
 ghost use Rattle.ex_desk.specs.Setting.{is_desk_settings};
 
-use stm_core::MOST_RENEWALS;
-use stm_words::VERSION_LIMIT;
+use stm_core::{MOST_RENEWALS, VERSION_LIMIT};
 use vac_model::limits::{MOST_AMOUNT, MOST_BLOCKS, MOST_TRIES};
 
 /// Largest number of trips of a desk.

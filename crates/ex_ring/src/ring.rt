@@ -10,9 +10,9 @@ ghost use Rattle.ex_ring.specs.Turns.{ClosesInOrder, IsFifo, IsOwnTurn};
 
 use crate::law::{RingObject, WORDS};
 use std::alloc::Global;
+use stm_core::Version;
 use stm_object::{Caller, Shared, User};
 use stm_region::RegionFault;
-use stm_words::Version;
 
 /// A ring, used by many users at once.
 pub type Ring = Shared<RingObject>;

@@ -5,8 +5,7 @@ use crate::index::Index;
 use crate::proposals::Names;
 use crate::quick::find_quickly;
 use judge_object::{Line, NEVER, Object};
-use judge_part::{Scope, fits, part_of_history};
-use judge_reservations::{Reservations, ValidTask};
+use judge_reservations::{Reservations, Scope, ValidTask, fits, part_of_history};
 use std::alloc::{AllocError, Global};
 use vac_model::{Command, Kind, Task};
 

@@ -2,10 +2,10 @@
 use Rattle.std.proofs.Common.{ℕ, List, [], get_or, sym, ◌∙◌}
 use Rattle.judge_object.specs.declared.line.Line.{Line}
 use Rattle.judge_search.specs.Calls.{calls_of}
-use Rattle.judge_many.specs.declared.judging.Verdict.{Verdict}
-use Rattle.judge_many.specs.declared.judging.Verdict.TheVariants as verdict
-use Rattle.judge_many.specs.Naming.{object_of, for_object, AreTogether}
-use Rattle.judge_many.specs.Runs.{AreOfOne}
+use Rattle.judge_text.specs.declared.by_object.Verdict.{Verdict}
+use Rattle.judge_text.specs.declared.by_object.Verdict.TheVariants as verdict
+use Rattle.judge_text.specs.Classing.{object_of, for_object, AreTogether}
+use Rattle.judge_text.specs.Runs.{AreOfOne}
 use Rattle.judge_text.specs.declared.counting.Counts.{Counts}
 use Rattle.judge_text.specs.declared.judging.TextVerdict.TheVariants.{Fault, Judged}
 use Rattle.judge_text.specs.Judging.{IsLegalText, IsJudgedText, DecidesBy, HasNaming}

@@ -4,8 +4,8 @@ use Rattle.std.proofs.Common.{◌∷◌}
 use Rattle.std.proofs.Common.{length, refl, sym, ap, ◌∙◌, inl, inr, arith}
 use Rattle.std.specs.Prelude.{Result}
 use Rattle.vac_lines.specs.Lines.{lines_of, words_of}
-use Rattle.judge_many.specs.Many.{changed}
-use Rattle.judge_many.proofs.OfOne.{named, changed_here, changed_not}
+use Rattle.judge_text.specs.Many.{changed}
+use Rattle.judge_text.proofs.OfOne.{named, changed_here, changed_not}
 use Rattle.judge_text.proofs.Cutting.{lines_none}
 use Rattle.judge_kv.specs.declared.starting.StartFault.{StartFault}
 use Rattle.judge_kv.specs.declared.starting.StartFault.TheVariants.{KeyTwice}

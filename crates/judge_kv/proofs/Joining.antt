@@ -6,10 +6,10 @@ use Rattle.judge_object.specs.Call.{Call, EachCall}
 use Rattle.judge_object.specs.declared.line.Line.{Line}
 use Rattle.judge_search.specs.Calls.{call_of, calls_of}
 use Rattle.judge_search.specs.Walk.{IsWhole}
-use Rattle.judge_many.specs.declared.classes.Classes.{Classes}
-use Rattle.judge_many.specs.Classes.{AreJoined, HasNoClass}
-use Rattle.judge_many.specs.Many.{AreStrict}
-use Rattle.judge_many.specs.Naming.{NamesClasses}
+use Rattle.judge_text.specs.declared.classes.Classes.{Classes}
+use Rattle.judge_text.specs.Classes.{AreJoined, HasNoClass}
+use Rattle.judge_text.specs.Many.{AreStrict}
+use Rattle.judge_text.specs.Classing.{NamesClasses}
 use Rattle.judge_kv.specs.Requests.{Stated, Requested}
 use Rattle.judge_kv.specs.Classes.{EachKey, IsOneFor, AreKeysJoined, JoinsCalls, AreStoreObjects, keys_of}
 

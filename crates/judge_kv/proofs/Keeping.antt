@@ -6,8 +6,8 @@ use Rattle.std.specs.Str.{bytes_eq}
 use Rattle.std.specs.declared.rc.Rc.{Rc}
 use Rattle.std.specs.declared.alloc.Global.{Global}
 use Rattle.judge_text.specs.Quoting.{unquoted}
-use Rattle.judge_many.proofs.OfOne.{named}
-use Rattle.judge_many.proofs.Numbering.{key_eq, others_find}
+use Rattle.judge_text.proofs.OfOne.{named}
+use Rattle.judge_text.proofs.Numbering.{key_eq, others_find}
 use Rattle.judge_kv.specs.Reading.{AreRead}
 
 same_value : (a b : Rc (List ℕ) Global) → Some a ≡ Some b → a ≡ b

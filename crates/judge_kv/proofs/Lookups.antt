@@ -7,8 +7,8 @@ use Rattle.std.proofs.lemmas.Slice.Eq.{bytes_eq-Decides}
 use Rattle.std.specs.Ordering.{is_lt, nat_cmp}
 use Rattle.std.specs.Cmp.Lexicographic.{slice_cmp}
 use Rattle.judge_kv.specs.Rules.{Held}
-use Rattle.judge_many.specs.Many.{changed}
-use Rattle.judge_many.proofs.OfOne.{named, changed_here, changed_not}
+use Rattle.judge_text.specs.Many.{changed}
+use Rattle.judge_text.proofs.OfOne.{named, changed_here, changed_not}
 use Rattle.judge_kv.specs.Stores.{Pairs, held_at, without, among, with_held}
 
 test : (b : Bool) → (b ≡ true) ⊎ (b ≡ false)

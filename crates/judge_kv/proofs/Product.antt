@@ -9,9 +9,9 @@ use Rattle.judge_kv.specs.Replies.{Answered}
 use Rattle.judge_kv.specs.Rules.{Held, is_held, held_after}
 use Rattle.judge_search.proofs.Each.{Each}
 use Rattle.judge_search.proofs.Clients.{each_order}
-use Rattle.judge_many.specs.Many.{changed, many}
-use Rattle.judge_many.specs.Naming.{for_object}
-use Rattle.judge_many.proofs.OfOne.{named, changed_here, changed_not}
+use Rattle.judge_text.specs.Many.{changed, many}
+use Rattle.judge_text.specs.Classing.{for_object}
+use Rattle.judge_text.proofs.OfOne.{named, changed_here, changed_not}
 use Rattle.judge_kv.specs.declared.clause.Role.{Role}
 use Rattle.judge_kv.specs.declared.clause.Role.TheVariants.{If, Get}
 use Rattle.judge_kv.specs.Stores.{Pairs, held_at, with_held}

@@ -3,10 +3,10 @@ use Rattle.std.specs.Prelude.{◌≡◌, ⊤, ℕ, List, [], ◌∷◌, map}
 use Rattle.judge_object.specs.Call.{Call, EachCall}
 use Rattle.judge_object.specs.Orders.{IsLinearizable}
 use Rattle.judge_search.specs.Walk.{IsWhole}
-use Rattle.judge_many.specs.Many.{many, AreStrict}
-use Rattle.judge_many.specs.declared.classes.Classes.{Classes}
-use Rattle.judge_many.specs.Classes.{IsOneForEach}
-use Rattle.judge_many.specs.Naming.{for_object, AreTogether}
+use Rattle.judge_text.specs.Many.{many, AreStrict}
+use Rattle.judge_text.specs.declared.classes.Classes.{Classes}
+use Rattle.judge_text.specs.Classes.{IsOneForEach}
+use Rattle.judge_text.specs.Classing.{for_object, AreTogether}
 use Rattle.judge_kv.specs.Stores.{Pairs}
 use Rattle.judge_kv.specs.Requests.{Requested, One, Transact}
 use Rattle.judge_kv.specs.StoreRules.{whole}

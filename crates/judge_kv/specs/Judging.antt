@@ -3,8 +3,8 @@ use Rattle.std.specs.Prelude.{◌≡◌, ⊤, ℕ, Ok, List}
 use Rattle.judge_object.specs.Call.{Call}
 use Rattle.judge_object.specs.Orders.{IsLinearizable}
 use Rattle.judge_search.specs.Walk.{InTurn}
-use Rattle.judge_many.specs.declared.judging.Verdict.{Verdict}
-use Rattle.judge_many.specs.declared.judging.Verdict.TheVariants as verdict
+use Rattle.judge_text.specs.declared.by_object.Verdict.{Verdict}
+use Rattle.judge_text.specs.declared.by_object.Verdict.TheVariants as verdict
 use Rattle.judge_text.specs.declared.judging.TextVerdict.{TextVerdict}
 use Rattle.judge_text.specs.declared.judging.TextVerdict.TheVariants.{Fault, Judged}
 use Rattle.judge_text.specs.Reading.{text_calls}

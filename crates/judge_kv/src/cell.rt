@@ -10,8 +10,8 @@ ghost use Rattle.judge_kv.specs.Rules.{cell, held_after, has, extended, increase
 use crate::answer::Answer;
 use crate::command::{Change, Command, Operation};
 use crate::value::Value;
-use judge_many::{Named, Names};
 use judge_object::{Line, Object};
+use judge_text::{Named, Names};
 use std::alloc::{AllocError, Global};
 use std::marker::Model;
 use std::rc::Rc;
@@ -286,7 +286,7 @@ impl Object for Cell {
 }
 
 impl Named for Cell {
-    ghost use Rattle.judge_many.specs.Naming.{AreOwn};
+    ghost use Rattle.judge_text.specs.Classing.{AreOwn};
 
     ghost name = { λ op. op.key };
 

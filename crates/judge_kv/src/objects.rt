@@ -3,15 +3,15 @@
 ghost use Rattle.std.specs.Prelude.{◌≡◌, true, false, OnOk, IfOk, map};
 ghost use Rattle.judge_search.specs.Calls.{calls_of};
 ghost use Rattle.judge_search.specs.Walk.{IsWhole};
-ghost use Rattle.judge_many.specs.Classes.{AreWellFormed};
-ghost use Rattle.judge_many.specs.Many.{AreStrict};
-ghost use Rattle.judge_many.specs.Naming.{object_of};
+ghost use Rattle.judge_text.specs.Classes.{AreWellFormed};
+ghost use Rattle.judge_text.specs.Many.{AreStrict};
+ghost use Rattle.judge_text.specs.Classing.{object_of};
 ghost use Rattle.judge_kv.specs.Classes.{AreStoreObjects, AreKeysJoined, JoinsCalls, keys_of};
 
 use crate::clause::Clause;
 use crate::request::{Request, RequestKind};
-use judge_many::{Classes, Names, Turns, find_turns};
 use judge_object::Line;
+use judge_text::{Classes, Names, Turns, find_turns};
 use std::alloc::{AllocError, Global};
 
 /// Joins the classes of the keys of clauses.

@@ -2,8 +2,8 @@
 
 ghost use Rattle.std.specs.Prelude.{◌≡◌, ◌∷◌, ◌<◌, ℕ, List, Some, None, IfOk, OnOk, is_some, length};
 ghost use Rattle.vac_lines.specs.Lines.{lines_of, texts};
-ghost use Rattle.judge_many.specs.Many.{changed};
-ghost use Rattle.judge_many.specs.Starts.{start_of};
+ghost use Rattle.judge_text.specs.Many.{changed};
+ghost use Rattle.judge_text.specs.Starts.{start_of};
 ghost use Rattle.judge_text.specs.Quoting.{unquoted};
 ghost use Rattle.judge_kv.specs.Rules.{Held};
 ghost use Rattle.judge_kv.specs.Starting as spec;
@@ -11,8 +11,7 @@ ghost use Rattle.judge_kv.specs.Starting.{First, BeginWith, IsFirstRead, AreFirs
 
 use crate::cell::Cell;
 use crate::words::is_name;
-use judge_many::Starts;
-use judge_text::{read_quoted, split_words};
+use judge_text::{Starts, read_quoted, split_words};
 use std::alloc::{AllocError, Global};
 use vac_lines::cut_at;
 

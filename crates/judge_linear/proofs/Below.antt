@@ -8,10 +8,10 @@ use Rattle.vac_lines.specs.Lines.{lines_of}
 use Rattle.judge_calls.specs.Laws.{Lists}
 use Rattle.judge_object.specs.declared.line.Line.{Line}
 use Rattle.judge_object.specs.Orders.{IsMerge}
-use Rattle.judge_levels.specs.declared.level.Level.{Level}
-use Rattle.judge_levels.specs.declared.level.Level.TheVariants as level
-use Rattle.judge_levels.specs.Levels.{keeps_all_of}
-use Rattle.judge_levels.specs.Relaxed.{PendingAreLast}
+use Rattle.judge_object.specs.declared.level.Level.{Level}
+use Rattle.judge_object.specs.declared.level.Level.TheVariants as level
+use Rattle.judge_object.specs.Levels.{keeps_all_of}
+use Rattle.judge_object.specs.Relaxed.{PendingAreLast}
 use Rattle.judge_reservations.specs.Reserving.{reserving}
 use Rattle.judge_search.specs.declared.calls.Calls.{Calls}
 use Rattle.judge_search.specs.declared.point.Point.{Point}

@@ -14,10 +14,10 @@ use Rattle.judge_object.specs.declared.span.TheConstants.{NEVER}
 use Rattle.judge_object.specs.declared.line.Line.{Line}
 use Rattle.judge_object.specs.Call.{Call, IsBehind, EachCall, is_completed}
 use Rattle.judge_object.specs.Orders.{IsMerge}
-use Rattle.judge_levels.specs.Cut.{running, cut_call, cut, line_cut}
-use Rattle.judge_levels.proofs.Cuts.{at_moment}
-use Rattle.judge_levels.proofs.CutLines.{cut_calls}
-use Rattle.judge_part.specs.Lines.{numbered}
+use Rattle.judge_object.specs.Cut.{running, cut_call, cut, line_cut}
+use Rattle.judge_object.proofs.Cuts.{at_moment}
+use Rattle.judge_object.proofs.CutLines.{cut_calls}
+use Rattle.judge_reservations.specs.Lines.{numbered}
 use Rattle.judge_reservations.specs.Reserving.{reserving}
 use Rattle.judge_search.specs.declared.calls.Calls.{Calls}
 use Rattle.judge_search.specs.declared.point.Point.{Point}

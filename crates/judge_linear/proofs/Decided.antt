@@ -1,7 +1,7 @@
 -- The outcome of a search at a level says whether the history is at the level.
 use Rattle.std.proofs.Common.{inl, inr, sym, subst}
-use Rattle.judge_part.specs.declared.scope.Scope.{Scope}
-use Rattle.judge_part.specs.Laws.{IllegalPartsShow}
+use Rattle.judge_reservations.specs.declared.scope.Scope.{Scope}
+use Rattle.judge_reservations.specs.Laws.{IllegalPartsShow}
 use Rattle.judge_linear.specs.Laws.{IsDecided, OutcomeDecides}
 use Rattle.judge_linear.specs.Found.{FoundOfText, Wrong, Order, NoOrder, IllegalPart, Undecided, IsFound}
 use Rattle.judge_linear.specs.Ordering.{outcome_of}

@@ -34,18 +34,18 @@ use Rattle.judge_linear.specs.Found.{part_text}
 use Rattle.judge_linear.specs.Judged.{HasNoOrderOf}
 use Rattle.judge_linear.specs.declared.part.IllegalPart as declared
 use Rattle.judge_linear.proofs.PartCalls.{part_lines, are_at, then_at, end_of_line}
-use Rattle.judge_part.specs.Histories.{part_of_call, part_of_history}
-use Rattle.judge_part.specs.Lines.{has_part}
+use Rattle.judge_reservations.specs.Histories.{part_of_call, part_of_history}
+use Rattle.judge_reservations.specs.Lines.{has_part}
 use Rattle.judge_object.specs.Orders.{IsLinearizable}
 use Rattle.vac_model.specs.declared.limits.TheConstants.{MOST_BLOCKS}
 use Rattle.std.specs.List.{list_all}
 use Rattle.judge_linear.specs.Found.{AreKeptInOrder, ArePartsAt, ArePartsThen, RunsBefore, RunsWithin, TextRunsWithin}
 use Rattle.judge_linear.specs.Judged.{IsReadAt}
-use Rattle.judge_levels.specs.declared.level.Level.{Level}
-use Rattle.judge_levels.specs.declared.level.Level.TheVariants as level
-use Rattle.judge_levels.specs.Levels.{keeps_all_of}
-use Rattle.judge_levels.specs.Relaxed.{untimed, alone, relax}
-use Rattle.judge_levels.proofs.Levels.{at_is_relaxed}
+use Rattle.judge_object.specs.declared.level.Level.{Level}
+use Rattle.judge_object.specs.declared.level.Level.TheVariants as level
+use Rattle.judge_object.specs.Levels.{keeps_all_of}
+use Rattle.judge_object.specs.Relaxed.{untimed, alone, relax}
+use Rattle.judge_object.proofs.Levels.{at_is_relaxed}
 use Rattle.judge_object.specs.Call as object
 use Rattle.judge_linear.specs.Found.{told_by, line_at, order_text, placed_text, none_text, open_text}
 use Rattle.judge_linear.specs.Ordering.{FindsText, HasText}

@@ -16,14 +16,14 @@ use Rattle.judge_object.specs.declared.span.TheConstants.{NEVER}
 use Rattle.judge_object.specs.declared.line.Line.{Line}
 use Rattle.judge_object.specs.Call.{Call, IsBehind, EachCall, is_completed}
 use Rattle.judge_object.specs.Orders.{of_client, IsMerge}
-use Rattle.judge_levels.specs.declared.level.Level.{Level}
-use Rattle.judge_levels.specs.declared.level.Level.TheVariants as level
-use Rattle.judge_levels.specs.Relaxed.{untimed_as, untimed, alone, relax, relaxed_call, OnlyLastIsPending}
-use Rattle.judge_levels.specs.Relaxed.{PendingAreLast, IsRelaxed}
-use Rattle.judge_levels.proofs.Merges.{test, AreApart, moved_apart, moved_merges, only_one}
-use Rattle.judge_levels.proofs.Times.{IsUntimed, last_rest}
-use Rattle.judge_levels.proofs.Levels.{alone_apart, untimed_is, clients_map, merge_map, only_map}
-use Rattle.judge_levels.proofs.Levels.{same_completed}
+use Rattle.judge_object.specs.declared.level.Level.{Level}
+use Rattle.judge_object.specs.declared.level.Level.TheVariants as level
+use Rattle.judge_object.specs.Relaxed.{untimed_as, untimed, alone, relax, relaxed_call, OnlyLastIsPending}
+use Rattle.judge_object.specs.Relaxed.{PendingAreLast, IsRelaxed}
+use Rattle.judge_object.proofs.Merges.{test, AreApart, moved_apart, moved_merges, only_one}
+use Rattle.judge_object.proofs.Times.{IsUntimed, last_rest}
+use Rattle.judge_object.proofs.Levels.{alone_apart, untimed_is, clients_map, merge_map, only_map}
+use Rattle.judge_object.proofs.Levels.{same_completed}
 use Rattle.judge_reservations.specs.Reserving.{reserving}
 use Rattle.judge_search.specs.Calls.{call_of, calls_of, no_call, soonest_of}
 use Rattle.judge_search.specs.Sorting.{AreSortOf}

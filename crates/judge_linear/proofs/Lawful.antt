@@ -2,16 +2,16 @@
 use Rattle.std.proofs.Common.{◌≡◌, true, Ok, Result, List, [], ◌∷◌, map, refl, sym, ap, ◌∙◌, subst}
 use Rattle.judge_calls.specs.declared.fault.CallFault.{CallFault}
 use Rattle.judge_calls.specs.Call.{Call}
-use Rattle.judge_levels.specs.declared.level.Level.{Level}
-use Rattle.judge_levels.specs.declared.level.Level.TheVariants as level
-use Rattle.judge_levels.specs.Levels.{IsAt, keeps_all_of}
-use Rattle.judge_levels.specs.Relaxed.{relax}
-use Rattle.judge_levels.proofs.Levels.{linearizable_is_sequential, sequential_is_serializable}
-use Rattle.judge_levels.proofs.Levels.{relaxed_is_at, at_is_relaxed}
+use Rattle.judge_object.specs.declared.level.Level.{Level}
+use Rattle.judge_object.specs.declared.level.Level.TheVariants as level
+use Rattle.judge_object.specs.Levels.{IsAt, keeps_all_of}
+use Rattle.judge_object.specs.Relaxed.{relax}
+use Rattle.judge_object.proofs.Levels.{linearizable_is_sequential, sequential_is_serializable}
+use Rattle.judge_object.proofs.Levels.{relaxed_is_at, at_is_relaxed}
 use Rattle.judge_linear.specs.Laws.{OrderIsAtLevel, NoOrderMeansNone, IllegalPartMeansNone}
 use Rattle.judge_linear.specs.Found.{relaxed_numbered}
-use Rattle.judge_part.specs.declared.scope.Scope.{Scope}
-use Rattle.judge_part.specs.Laws.{IllegalPartsShow}
+use Rattle.judge_reservations.specs.declared.scope.Scope.{Scope}
+use Rattle.judge_reservations.specs.Laws.{IllegalPartsShow}
 use Rattle.judge_search.proofs.Judged.{none_given}
 use Rattle.judge_reservations.specs.Reserving.{reserving}
 use Rattle.vac_model.specs.State.{State, empty_state}

@@ -10,20 +10,20 @@ use Rattle.std.proofs.lemmas.List.Sorted.{All-permutation}
 use Rattle.vac_model.specs.declared.tasks.Task.{Task}
 use Rattle.judge_object.specs.declared.line.Line.{Line}
 use Rattle.judge_object.specs.Call.{Call, IsBehind, EachCall, is_completed}
-use Rattle.judge_part.specs.declared.scope.Scope.{Scope}
-use Rattle.judge_part.specs.Tasks.{Answered}
-use Rattle.judge_part.specs.Completed.{task_part}
-use Rattle.judge_part.specs.Pending.{pending_part}
-use Rattle.judge_part.specs.Histories.{with_answered, with_pending, replied_part, part_of_call, part_of_history}
-use Rattle.judge_part.specs.Lines.{numbered, line_part}
+use Rattle.judge_reservations.specs.declared.scope.Scope.{Scope}
+use Rattle.judge_reservations.specs.Tasks.{Answered}
+use Rattle.judge_reservations.specs.Completed.{task_part}
+use Rattle.judge_reservations.specs.Pending.{pending_part}
+use Rattle.judge_reservations.specs.Histories.{with_answered, with_pending, replied_part, part_of_call, part_of_history}
+use Rattle.judge_reservations.specs.Lines.{numbered, line_part}
 use Rattle.judge_search.specs.Calls.{call_of, calls_of, soonest_of}
 use Rattle.judge_search.specs.Sorting.{AreSortOf}
 use Rattle.judge_search.specs.Walk.{InTurn, IsTimed, IsWhole}
 use Rattle.judge_linear.specs.Reading.{numbers_of, IsLineAt}
 use Rattle.judge_linear.specs.Found.{IsGivenAt, AreGivenAt, ArePartsThen, IsEndOf}
 use Rattle.judge_linear.specs.Moments.{part_then, IsEndIn, IsWrongPart}
-use Rattle.judge_levels.specs.Cut.{cut_call, line_cut}
-use Rattle.judge_levels.proofs.Cuts.{cut_linearizable}
+use Rattle.judge_object.specs.Cut.{cut_call, line_cut}
+use Rattle.judge_object.proofs.Cuts.{cut_linearizable}
 use Rattle.judge_linear.specs.Judged.{HasNoOrderOf}
 use Rattle.judge_linear.specs.declared.part.IllegalPart.{IllegalPart}
 use Rattle.std.specs.Prelude.{true}
@@ -31,7 +31,7 @@ use Rattle.std.specs.List.{list_all}
 use Rattle.vac_model.specs.declared.limits.TheConstants.{MOST_BLOCKS}
 use Rattle.vac_model.specs.State.{empty_state}
 use Rattle.judge_object.specs.Orders.{IsMerge, IsLinearizable}
-use Rattle.judge_part.specs.Lines.{has_part}
+use Rattle.judge_reservations.specs.Lines.{has_part}
 use Rattle.judge_reservations.specs.Reserving.{reserving}
 use Rattle.judge_search.proofs.Judged.{whole_kept, none_given}
 

@@ -23,9 +23,9 @@ use Rattle.judge_search.specs.Calls.{no_call}
 use Rattle.judge_linear.specs.Reading.{call_at}
 use Rattle.judge_linear.specs.Found.{FoundOfText, Wrong, Order, NoOrder, IllegalPart, Undecided, IsFound}
 use Rattle.judge_linear.specs.Found.{calls_numbered, IsOrdered}
-use Rattle.judge_levels.specs.declared.level.Level.{Level}
-use Rattle.judge_levels.specs.declared.level.Level.TheVariants as level
-use Rattle.judge_levels.specs.Levels.{keeps_all_of}
+use Rattle.judge_object.specs.declared.level.Level.{Level}
+use Rattle.judge_object.specs.declared.level.Level.TheVariants as level
+use Rattle.judge_object.specs.Levels.{keeps_all_of}
 use Rattle.judge_linear.specs.Found.{line_at}
 use Rattle.judge_linear.specs.Found.{order_text}
 use Rattle.judge_linear.specs.Found.{found_text}

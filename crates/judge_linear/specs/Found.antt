@@ -14,15 +14,15 @@ use Rattle.judge_calls.specs.Verdict.{verdict_text}
 use Rattle.judge_calls.specs.Call.{Call}
 use Rattle.judge_calls.specs.Laws.{Lists, IsLinearization}
 use Rattle.judge_object.specs.Orders.{IsMerge, IsOrderOf, IsLinearizable}
-use Rattle.judge_levels.specs.declared.level.Level.{Level}
-use Rattle.judge_levels.specs.declared.level.Level.TheVariants as level
-use Rattle.judge_levels.specs.Levels.{IsAt, keeps_all_of}
-use Rattle.judge_levels.specs.Cut.{cut}
-use Rattle.judge_levels.specs.Relaxed.{relax, PendingAreLast}
+use Rattle.judge_object.specs.declared.level.Level.{Level}
+use Rattle.judge_object.specs.declared.level.Level.TheVariants as level
+use Rattle.judge_object.specs.Levels.{IsAt, keeps_all_of}
+use Rattle.judge_object.specs.Cut.{cut}
+use Rattle.judge_object.specs.Relaxed.{relax, PendingAreLast}
 use Rattle.judge_reservations.specs.Reserving.{reserving}
-use Rattle.judge_part.specs.declared.scope.Scope.{Scope}
-use Rattle.judge_part.specs.Histories.{part_of_call, part_of_history}
-use Rattle.judge_part.specs.Largest.{IsScopeOf}
+use Rattle.judge_reservations.specs.declared.scope.Scope.{Scope}
+use Rattle.judge_reservations.specs.Histories.{part_of_call, part_of_history}
+use Rattle.judge_reservations.specs.Largest.{IsScopeOf}
 use Rattle.judge_search.specs.declared.stuck.Stuck.{Stuck}
 use Rattle.judge_search.specs.Configurations.{start, answered, PlacesAtMost, Deepest}
 use Rattle.judge_search.specs.Calls.{rest_of}

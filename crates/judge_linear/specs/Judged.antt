@@ -6,9 +6,9 @@ use Rattle.vac_model.specs.declared.tasks.Task.{Task}
 use Rattle.vac_model.specs.State.{State, empty_state}
 use Rattle.judge_object.specs.declared.line.Line.{Line}
 use Rattle.judge_object.specs.Orders.{IsMerge, IsLinearizable}
-use Rattle.judge_levels.specs.declared.level.Level.{Level}
-use Rattle.judge_levels.specs.declared.level.Level.TheVariants as level
-use Rattle.judge_levels.specs.Relaxed.{relax, PendingAreLast}
+use Rattle.judge_object.specs.declared.level.Level.{Level}
+use Rattle.judge_object.specs.declared.level.Level.TheVariants as level
+use Rattle.judge_object.specs.Relaxed.{relax, PendingAreLast}
 use Rattle.vac_lines.specs.Lines.{lines_of}
 use Rattle.judge_calls.specs.Call.{Call}
 use Rattle.judge_calls.specs.Laws.{Lists}
@@ -17,8 +17,8 @@ use Rattle.judge_search.specs.declared.walk.Finding.TheVariants as finding
 use Rattle.judge_search.specs.Searching.{HasRun}
 use Rattle.judge_linear.specs.declared.order.Ordered.{Ordered}
 use Rattle.judge_linear.specs.Reading.{texts_of, AreKeptLines, first_wrong}
-use Rattle.judge_part.specs.Histories.{part_of_history}
-use Rattle.judge_part.specs.Lines.{numbered, line_part, has_part}
+use Rattle.judge_reservations.specs.Histories.{part_of_history}
+use Rattle.judge_reservations.specs.Lines.{numbered, line_part, has_part}
 use Rattle.judge_reservations.specs.Reserving.{reserving}
 use Rattle.judge_search.specs.declared.calls.Calls.{Calls}
 use Rattle.judge_search.specs.Calls.{calls_of}

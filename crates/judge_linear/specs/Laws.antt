@@ -13,9 +13,9 @@ use Rattle.judge_calls.specs.Laws.{Lists, IsLinearization, state_after}
 use Rattle.judge_calls.specs.AnyOrder.{IsReordered, IsWholeOrder, order_verdict, is_covered}
 use Rattle.judge_linear.specs.declared.ordering.Outcome.{Outcome}
 use Rattle.judge_linear.specs.declared.ordering.Outcome.TheVariants as outcome
-use Rattle.judge_levels.specs.declared.level.Level.{Level}
-use Rattle.judge_levels.specs.declared.level.Level.TheVariants as level
-use Rattle.judge_levels.specs.Levels.{IsAt}
+use Rattle.judge_object.specs.declared.level.Level.{Level}
+use Rattle.judge_object.specs.declared.level.Level.TheVariants as level
+use Rattle.judge_object.specs.Levels.{IsAt}
 use Rattle.judge_object.specs.Orders.{IsOrderOf}
 use Rattle.judge_reservations.specs.Reserving.{reserving}
 use Rattle.judge_linear.specs.Found.{Order, NoOrder, IllegalPart, IsFound}

@@ -9,11 +9,11 @@ use Rattle.vac_model.specs.State.{State, empty_state}
 use Rattle.judge_object.specs.declared.span.TheConstants.{NEVER}
 use Rattle.judge_object.specs.declared.line.Line.{Line}
 use Rattle.judge_object.specs.Orders.{IsMerge, IsLinearizable}
-use Rattle.judge_levels.specs.Cut.{cut, cut_call, line_cut}
+use Rattle.judge_object.specs.Cut.{cut, cut_call, line_cut}
 use Rattle.judge_calls.specs.Call.{Call}
-use Rattle.judge_part.specs.declared.scope.Scope.{Scope}
-use Rattle.judge_part.specs.Histories.{part_of_call}
-use Rattle.judge_part.specs.Lines.{numbered}
+use Rattle.judge_reservations.specs.declared.scope.Scope.{Scope}
+use Rattle.judge_reservations.specs.Histories.{part_of_call}
+use Rattle.judge_reservations.specs.Lines.{numbered}
 use Rattle.judge_reservations.specs.Reserving.{reserving}
 use Rattle.judge_search.specs.declared.calls.Calls.{Calls}
 use Rattle.judge_search.specs.Calls.{calls_of, has_ended, rest_of}

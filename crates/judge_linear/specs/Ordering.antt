@@ -4,7 +4,7 @@ use Rattle.std.specs.Io.KnownBytes.{Appends, Consumes, IsAtEnd}
 use Rattle.vac_lines.specs.Writing.{AppendsPrefix}
 use Rattle.vac_lines.specs.declared.stream_fault.StreamFault.{StreamFault}
 use Rattle.vac_lines.specs.declared.stream_fault.StreamFault.TheVariants as fault
-use Rattle.judge_levels.specs.declared.level.Level.{Level}
+use Rattle.judge_object.specs.declared.level.Level.{Level}
 use Rattle.judge_linear.specs.declared.ordering.Outcome.{Outcome}
 use Rattle.judge_linear.specs.declared.ordering.Outcome.TheVariants as outcome
 use Rattle.judge_linear.specs.Found.{FoundOfText, Wrong, Order, NoOrder, IllegalPart, Undecided, IsFound}

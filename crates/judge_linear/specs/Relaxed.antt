@@ -1,8 +1,8 @@
 -- Lines of a history, copied without the order that a level does not keep.
 use Rattle.std.specs.Prelude.{◌≡◌, ⊤, List, [], ◌∷◌}
 use Rattle.vac_model.specs.declared.tasks.Task.{Task}
-use Rattle.judge_levels.specs.declared.level.Level.{Level}
-use Rattle.judge_levels.specs.Relaxed.{relaxed_call}
+use Rattle.judge_object.specs.declared.level.Level.{Level}
+use Rattle.judge_object.specs.Relaxed.{relaxed_call}
 use Rattle.judge_object.specs.declared.line.Line.{Line}
 use Rattle.judge_object.specs.Orders.{IsMerge}
 use Rattle.judge_search.specs.declared.calls.Calls.{Calls}

@@ -16,7 +16,7 @@ use Rattle.judge_calls.specs.Wrongs.{CallsTakeTurns}
 use Rattle.judge_object.specs.Call.{EachCall, is_completed}
 use Rattle.judge_object.specs.Orders.{of_client, IsOrderOf, IsLinearizable}
 use Rattle.judge_reservations.specs.Reserving.{reserving}
-use Rattle.judge_levels.specs.declared.level.Level.{Level}
+use Rattle.judge_object.specs.declared.level.Level.{Level}
 use Rattle.judge_linear.specs.declared.ordering.Outcome.{Outcome}
 use Rattle.judge_linear.specs.declared.ordering.Outcome.TheVariants as outcome
 use Rattle.judge_linear.specs.Found.{Wrong, IsFound}

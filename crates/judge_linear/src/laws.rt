@@ -7,7 +7,7 @@ ghost use Rattle.judge_linear.specs.Wrongs.{WrongIsFirst, FirstWrongIsWritten, W
 ghost use Rattle.judge_linear.specs.Wrongs.{OutOfTurnIsLeftOut, OutOfTurnMeansNone};
 
 use judge_calls::{a_covered_order_is_the_whole_workload, a_legal_history_has_this_summary};
-use judge_part::illegal_parts_show_illegal_histories;
+use judge_reservations::illegal_parts_show_illegal_histories;
 
 /// States that, if an order is found at a level, the history is at the level: linearizable,
 /// sequentially consistent or serializable.

@@ -2,7 +2,7 @@
 //! have no order.
 
 ghost use Rattle.std.specs.Prelude.{◌≡◌, ◌<◌, ◌≤◌, true, IfOk, IfSome, map, length};
-ghost use Rattle.judge_part.specs.Lines.{numbered};
+ghost use Rattle.judge_reservations.specs.Lines.{numbered};
 ghost use Rattle.judge_search.specs.Calls.{calls_of};
 ghost use Rattle.judge_search.specs.Walk.{IsWhole};
 ghost use Rattle.judge_linear.specs.Moments.{AreCutCalls, EndsAt, IsEndIn, HadNoOrder};
@@ -10,8 +10,7 @@ ghost use Rattle.judge_linear.specs.Moments.{HadNoOrderAt, IsWrongPart};
 
 use crate::part::open;
 use crate::relaxed::copied_line;
-use judge_levels::cut_lines;
-use judge_object::{Line, NEVER, Watcher};
+use judge_object::{Line, NEVER, Watcher, cut_lines};
 use judge_reservations::ValidTask;
 use judge_search::{Calls, Finding, Stuck, find_linearization, stuck_calls};
 use std::alloc::{AllocError, Global};

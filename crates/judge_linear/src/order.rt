@@ -2,7 +2,7 @@
 
 ghost use Rattle.std.specs.Prelude.{◌≡◌, ◌≢◌, ◌≤◌, IfOk, IfSome};
 ghost use Rattle.vac_model.specs.State.{empty_state};
-ghost use Rattle.judge_levels.specs.declared.level.Level.TheVariants.{Linearizable};
+ghost use Rattle.judge_object.specs.declared.level.Level.TheVariants.{Linearizable};
 ghost use Rattle.judge_reservations.specs.Reserving.{reserving};
 ghost use Rattle.judge_search.specs.Calls.{calls_of};
 ghost use Rattle.judge_search.specs.Judging.{IsLinearizedBy, IsFoundIn};
@@ -16,8 +16,7 @@ use crate::part::{IllegalPart, find_illegal_part, open};
 use crate::relaxed::relaxed_calls;
 use crate::settings::Settings;
 use judge_heuristic::find_quickly;
-use judge_levels::Level;
-use judge_object::{Object, Watcher};
+use judge_object::{Level, Object, Watcher};
 use judge_reservations::{Reservations, ValidTask};
 use judge_search::{Calls, Finding, Found, Point, find_linearization, is_linearization};
 use std::alloc::{AllocError, Global};

@@ -1,7 +1,7 @@
 //! Ordering a history: reading, searching and writing the result.
 
 ghost use Rattle.std.specs.Prelude.{◌≡◌, ◌≤◌, ◌≢◌, ◌+◌, ℕ, None, List, [], IfOk, IfErr};
-ghost use Rattle.judge_levels.specs.declared.level.Level.{Level};
+ghost use Rattle.judge_object.specs.declared.level.Level.{Level};
 ghost use Rattle.judge_object.specs.declared.line.Line.{Line};
 ghost use Rattle.judge_reservations.specs.Reserving.{reserving};
 ghost use Rattle.vac_model.specs.State.{empty_state};

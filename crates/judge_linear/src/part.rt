@@ -3,7 +3,7 @@
 ghost use Rattle.std.specs.Prelude.{◌≡◌, ◌≤◌, true, IfOk, IfSome};
 ghost use Rattle.std.specs.List.{list_all};
 ghost use Rattle.vac_model.specs.State.{empty_state};
-ghost use Rattle.judge_part.specs.Lines.{has_part};
+ghost use Rattle.judge_reservations.specs.Lines.{has_part};
 ghost use Rattle.judge_search.specs.Calls.{calls_of};
 ghost use Rattle.judge_search.specs.Walk.{IsWhole};
 ghost use Rattle.judge_linear.specs.Judged.{HasNoOrderOf};
@@ -11,8 +11,7 @@ ghost use Rattle.judge_linear.specs.Judged.{HasNoOrderOf};
 use crate::moments::{WrongPart, first_wrong};
 use judge_heuristic::{Names, Proposals};
 use judge_object::Watcher;
-use judge_part::{Scope, part_of_history, scope_of};
-use judge_reservations::{Reservations, ValidTask};
+use judge_reservations::{Reservations, Scope, ValidTask, part_of_history, scope_of};
 use judge_search::Calls;
 use std::alloc::{AllocError, Global};
 use vac_model::limits::MOST_BLOCKS;

@@ -5,8 +5,7 @@ ghost use Rattle.judge_object.specs.Rules.{given_text};
 ghost use Rattle.judge_linear.specs.Relaxed.{IsCopy, IsRelaxedLine};
 ghost use Rattle.judge_linear.specs.Relaxed.{AreRelaxedLines, AreRelaxedCalls};
 
-use judge_levels::{Level, relaxed_line};
-use judge_object::Line;
+use judge_object::{Level, Line, relaxed_line};
 use judge_reservations::ValidTask;
 use judge_search::Calls;
 use std::alloc::{AllocError, Global};

@@ -1,6 +1,6 @@
 //! The question that is asked of a history.
 
-use judge_levels::Level;
+use judge_object::Level;
 
 /// The question that is asked of a history, and the bound of the searches for an answer.
 #[derive(Clone, Copy, Debug, PartialEq, Eq)]

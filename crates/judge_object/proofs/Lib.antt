@@ -2,3 +2,8 @@ pub mod Trees
 pub mod Tests
 pub mod Keeping
 pub mod Order
+pub mod Merges
+pub mod Times
+pub mod Levels
+pub mod Cuts
+pub mod CutLines

@@ -5,3 +5,7 @@ pub mod Orders
 pub mod Order
 pub mod Laws
 pub mod Keeping
+pub mod Levels
+pub mod Relaxed
+pub mod LevelLaws
+pub mod Cut

@@ -8,7 +8,7 @@ use Rattle.judge_object.specs.declared.line.Line.{Line}
 use Rattle.judge_calls.specs.declared.fault.CallFault.{CallFault}
 use Rattle.judge_calls.specs.Call.{Call, line_call}
 use Rattle.judge_calls.specs.Laws.{Lists}
-use Rattle.judge_part.specs.Lines.{call_of, calls_of}
+use Rattle.judge_reservations.specs.Lines.{call_of, calls_of}
 use Rattle.judge_part_text.specs.Reading.{IsFirstDamaged}
 
 -- these lines were read of a text, and this rest of it is left

@@ -9,10 +9,10 @@ use Rattle.judge_calls.specs.Call.{Call}
 use Rattle.judge_calls.specs.Laws.{Lists}
 use Rattle.judge_calls.specs.Verdict.{verdict_text}
 use Rattle.judge_calls.specs.CallText.{history_text}
-use Rattle.judge_part.specs.declared.scope.Scope.{Scope}
-use Rattle.judge_part.specs.Histories.{part_of_history}
-use Rattle.judge_part.specs.Largest.{IsScopeOf, HasAllClosed, HasAllWhole, HasNoScope}
-use Rattle.judge_part.specs.Lines.{calls_of}
+use Rattle.judge_reservations.specs.declared.scope.Scope.{Scope}
+use Rattle.judge_reservations.specs.Histories.{part_of_history}
+use Rattle.judge_reservations.specs.Largest.{IsScopeOf, HasAllClosed, HasAllWhole, HasNoScope}
+use Rattle.judge_reservations.specs.Lines.{calls_of}
 use Rattle.judge_part_text.specs.Parting.{IsPartOfCalls, IsTextOfCalls, IsTextFor}
 use Rattle.judge_part_text.specs.Reading.{IsFirstDamaged}
 

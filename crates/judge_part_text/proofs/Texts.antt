@@ -9,7 +9,7 @@ use Rattle.vac_lines.specs.Script.{as_line}
 use Rattle.judge_object.specs.declared.line.Line.{Line}
 use Rattle.judge_calls.specs.Call.{Call}
 use Rattle.judge_calls.specs.CallText.{call_text, history_text}
-use Rattle.judge_part.specs.Lines.{call_of, calls_of}
+use Rattle.judge_reservations.specs.Lines.{call_of, calls_of}
 
 abbrev text_of : Call → List ℕ
 text_of call = as_line (call_text call)

@@ -11,12 +11,12 @@ use Rattle.vac_model.specs.State.{Place}
 use Rattle.judge_object.specs.declared.span.TheConstants.{NEVER}
 use Rattle.judge_object.specs.declared.line.Line.{Line}
 use Rattle.judge_object.specs.Rules.{given_text}
-use Rattle.judge_levels.specs.Cut.{cut, cut_call, running}
+use Rattle.judge_object.specs.Cut.{cut, cut_call, running}
 use Rattle.judge_calls.specs.Call.{Call}
 use Rattle.judge_calls.specs.Laws.{Lists}
-use Rattle.judge_part.specs.declared.scope.Scope.{Scope}
-use Rattle.judge_part.specs.Largest.{HasNoScope}
-use Rattle.judge_part.specs.Lines.{call_of, calls_of, has_part}
+use Rattle.judge_reservations.specs.declared.scope.Scope.{Scope}
+use Rattle.judge_reservations.specs.Largest.{HasNoScope}
+use Rattle.judge_reservations.specs.Lines.{call_of, calls_of, has_part}
 use Rattle.judge_part_text.specs.Parting.{IsOpen}
 use Rattle.judge_part_text.specs.Until.{had_part, may_have_part, end_at, IsFirstWithoutThen, IsTextThen}
 use Rattle.judge_part_text.specs.Until.{IsTextUntil, IsCutTextFor}
@@ -24,9 +24,9 @@ use Rattle.judge_part_text.specs.Until.{IsTextOfCut}
 use Rattle.judge_part_text.specs.Laws.{IsIllegalFrom}
 use Rattle.judge_part_text.proofs.Histories.{same_calls}
 use Rattle.judge_part_text.proofs.Without.{all_pass, position_map}
-use Rattle.judge_part.specs.Histories.{part_of_history, fits}
-use Rattle.judge_part.specs.Laws.{IllegalPartsShow}
-use Rattle.judge_levels.proofs.Cuts.{cut_linearizable}
+use Rattle.judge_reservations.specs.Histories.{part_of_history, fits}
+use Rattle.judge_reservations.specs.Laws.{IllegalPartsShow}
+use Rattle.judge_object.proofs.Cuts.{cut_linearizable}
 use Rattle.judge_object.specs.Orders.{IsLinearizable}
 use Rattle.judge_reservations.specs.Reserving.{reserving}
 use Rattle.vac_model.specs.State.{empty_state}

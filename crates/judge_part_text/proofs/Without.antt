@@ -8,9 +8,9 @@ use Rattle.std.proofs.lemmas.List.{length-map}
 use Rattle.vac_model.specs.declared.tasks.Task.{Task}
 use Rattle.vac_model.specs.State.{Place}
 use Rattle.judge_object.specs.declared.line.Line.{Line}
-use Rattle.judge_part.specs.declared.scope.Scope.{Scope}
-use Rattle.judge_part.specs.Largest.{HasNoScope}
-use Rattle.judge_part.specs.Lines.{call_of, calls_of, has_part}
+use Rattle.judge_reservations.specs.declared.scope.Scope.{Scope}
+use Rattle.judge_reservations.specs.Largest.{HasNoScope}
+use Rattle.judge_reservations.specs.Lines.{call_of, calls_of, has_part}
 use Rattle.judge_part_text.specs.Parting.{IsOpen, IsFirstWithout}
 
 -- ---- positions

@@ -7,8 +7,8 @@ use Rattle.judge_reservations.specs.Reserving.{reserving}
 use Rattle.judge_calls.specs.Call.{Call}
 use Rattle.judge_calls.specs.CallText.{AreWritten}
 use Rattle.judge_calls.specs.Laws.{Lists}
-use Rattle.judge_part.specs.Histories.{part_of_history}
-use Rattle.judge_levels.specs.Cut.{cut}
+use Rattle.judge_reservations.specs.Histories.{part_of_history}
+use Rattle.judge_object.specs.Cut.{cut}
 use Rattle.judge_part_text.specs.Parting.{IsTextOfHistory}
 use Rattle.judge_part_text.specs.Until.{IsTextOfCut, end_at}
 

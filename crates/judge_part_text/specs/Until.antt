@@ -12,13 +12,13 @@ use Rattle.vac_lines.specs.declared.stream_fault.StreamFault.{StreamFault}
 use Rattle.vac_lines.specs.declared.stream_fault.StreamFault.TheVariants as fault
 use Rattle.judge_object.specs.declared.span.TheConstants.{NEVER}
 use Rattle.judge_object.specs.Call.{is_completed}
-use Rattle.judge_levels.specs.Cut.{cut, cut_call}
+use Rattle.judge_object.specs.Cut.{cut, cut_call}
 use Rattle.judge_calls.specs.Call.{Call}
 use Rattle.judge_calls.specs.HeldReading.{IsReadWhole}
 use Rattle.judge_calls.specs.Laws.{Lists}
-use Rattle.judge_part.specs.declared.scope.Scope.{Scope}
-use Rattle.judge_part.specs.Largest.{HasNoScope}
-use Rattle.judge_part.specs.Lines.{has_part}
+use Rattle.judge_reservations.specs.declared.scope.Scope.{Scope}
+use Rattle.judge_reservations.specs.Largest.{HasNoScope}
+use Rattle.judge_reservations.specs.Lines.{has_part}
 use Rattle.judge_part_text.specs.Naming.{Named}
 use Rattle.judge_part_text.specs.Parting.{IsOpen, IsPartOfCalls, IsDamageText, no_part_text}
 

@@ -4,7 +4,7 @@ ghost use Rattle.judge_part_text.specs.Laws.{IllegalPartsShow, IllegalTextsShow}
 ghost use Rattle.judge_part_text.specs.Laws.{IllegalPartsUntilShow, IllegalTextsUntilShow};
 
 use judge_calls::histories_are_read;
-use judge_part::illegal_parts_show_illegal_histories;
+use judge_reservations::illegal_parts_show_illegal_histories;
 
 /// States that a history is not linearizable, in a system of any number of blocks, if its part
 /// whose text was written is not linearizable in a system of the greatest number of blocks.

@@ -2,8 +2,8 @@
 
 ghost use Rattle.std.specs.Prelude.{◌≡◌, ◌++◌, not, IfOk, IfErr, OnOk};
 ghost use Rattle.std.specs.List.{position};
-ghost use Rattle.judge_part.specs.Largest.{HasNoScope};
-ghost use Rattle.judge_part.specs.Lines as spec;
+ghost use Rattle.judge_reservations.specs.Largest.{HasNoScope};
+ghost use Rattle.judge_reservations.specs.Lines as spec;
 ghost use Rattle.judge_part_text.specs.Naming as naming;
 ghost use Rattle.judge_part_text.specs.Parting.{IsOpen, IsFirstWithout, no_part_text};
 ghost use Rattle.judge_part_text.specs.Parting.{IsTextOfCalls, IsTextFor, HasParted};
@@ -14,8 +14,7 @@ use crate::reading::{Reading, read_history};
 use judge_calls::{Verdict, print_verdict, read_all};
 use judge_heuristic::Names;
 use judge_object::{Line, NEVER};
-use judge_part::{Scope, fits, part_of_history, scope_of};
-use judge_reservations::ValidTask;
+use judge_reservations::{Scope, ValidTask, fits, part_of_history, scope_of};
 use std::alloc::{AllocError, Global};
 use std::io::{Read, Write};
 use vac_lines::{StreamFault, append_field, write_and_flush};

@@ -4,7 +4,7 @@ ghost use Rattle.std.specs.Prelude.{◌≡◌, ◌++◌, OnOk, codes, decimal};
 ghost use Rattle.vac_lines.specs.Script.{as_line};
 ghost use Rattle.vac_lines.specs.TaskText.{task_text};
 ghost use Rattle.judge_calls.specs.CallText.{call_text, end_text, answer_text, history_text};
-ghost use Rattle.judge_part.specs.Lines.{call_of, calls_of};
+ghost use Rattle.judge_reservations.specs.Lines.{call_of, calls_of};
 
 use judge_object::{Line, NEVER};
 use judge_reservations::ValidTask;

@@ -6,7 +6,7 @@ ghost use Rattle.vac_model.specs.Ranges.{is_task};
 ghost use Rattle.vac_lines.specs.Lines.{lines_of};
 ghost use Rattle.judge_object.specs.Rules.{given_text};
 ghost use Rattle.judge_calls.specs.Parts.{shown_call};
-ghost use Rattle.judge_part.specs.Lines.{call_of};
+ghost use Rattle.judge_reservations.specs.Lines.{call_of};
 ghost use Rattle.judge_part_text.specs.Reading.{IsReadLine, IsReadingOf};
 
 use judge_calls::{CallFault, CallLine, read_call};

@@ -4,8 +4,8 @@ ghost use Rattle.std.specs.Prelude.{◌≡◌, ◌++◌, OnOk, IfOk, [], true};
 ghost use Rattle.judge_queue.specs.Rules.{queue, put, taken, reply_text};
 
 use crate::op::{Op, Reply};
-use judge_many::{Named, Names};
 use judge_object::{Line, Object};
+use judge_text::{Named, Names};
 use std::alloc::{AllocError, Global};
 use std::marker::Model;
 use vac_lines::append_field;
@@ -110,7 +110,7 @@ impl Object for Queue {
 }
 
 impl Named for Queue {
-    ghost use Rattle.judge_many.specs.Naming.{AreOwn};
+    ghost use Rattle.judge_text.specs.Classing.{AreOwn};
 
     ghost name = { λ op. [] };
 

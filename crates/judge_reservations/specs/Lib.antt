@@ -1,1 +1,12 @@
 pub mod Reserving
+pub mod Scopes
+pub mod Parts
+pub mod Tasks
+pub mod Updates
+pub mod Trips
+pub mod Completed
+pub mod Pending
+pub mod Histories
+pub mod Lines
+pub mod Largest
+pub mod Laws

@@ -1,8 +1,27 @@
 //! The reservation system as a sequential object.
 #![tactic(auto)]
 
+mod answers;
 mod asked;
+mod calls;
+mod chosen;
+mod history;
+mod laws;
+mod pending;
 mod reservations;
+mod scope;
+mod trips;
+mod updates;
+mod words;
 
+pub use answers::{AnsweredTask, task_part};
 pub use asked::ValidTask;
+pub use calls::fits;
+pub use chosen::scope_of;
+pub use history::part_of_history;
+pub use laws::{
+    illegal_parts_show_illegal_histories, parts_of_linearizable_histories_are_linearizable,
+};
+pub use pending::pending_part;
 pub use reservations::Reservations;
+pub use scope::Scope;

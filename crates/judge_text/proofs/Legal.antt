@@ -9,10 +9,10 @@ use Rattle.judge_object.specs.Orders.{IsLinearizable}
 use Rattle.judge_search.specs.Calls.{calls_of}
 use Rattle.judge_search.specs.Walk.{InTurn}
 use Rattle.judge_search.proofs.Each.{test}
-use Rattle.judge_many.specs.Many.{many}
-use Rattle.judge_many.specs.Turns.{call_breaks_client, calls_overlap, IsFirstOutOfTurn}
-use Rattle.judge_many.specs.declared.judging.Verdict.{Verdict}
-use Rattle.judge_many.specs.declared.judging.Verdict.TheVariants as verdict
+use Rattle.judge_text.specs.Many.{many}
+use Rattle.judge_text.specs.Turns.{call_breaks_client, calls_overlap, IsFirstOutOfTurn}
+use Rattle.judge_text.specs.declared.by_object.Verdict.{Verdict}
+use Rattle.judge_text.specs.declared.by_object.Verdict.TheVariants as verdict
 use Rattle.judge_text.specs.declared.counting.Counts.{Counts}
 use Rattle.judge_text.specs.Language.{Language}
 use Rattle.judge_text.specs.Reading.{LineFault, text_calls}

@@ -7,3 +7,13 @@ pub mod Ending
 pub mod Counted
 pub mod Naming
 pub mod Printing
+pub mod OfOne
+pub mod Whole
+pub mod ByNames
+pub mod Ends
+pub mod One
+pub mod Blocking
+pub mod Beginnings
+pub mod Classing
+pub mod Numbering
+pub mod Grouping

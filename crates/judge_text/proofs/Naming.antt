@@ -20,14 +20,14 @@ use Rattle.judge_search.proofs.Right.{of_answer}
 use Rattle.judge_search.proofs.Soonest.{same_calls}
 use Rattle.judge_search.proofs.Sorted.{call_here, length_calls}
 use Rattle.judge_search.proofs.Tries.{at, all_choices, may_begin}
-use Rattle.judge_many.specs.Judging.{AreBlocked}
-use Rattle.judge_many.specs.Runs.{name_of, lines_for}
-use Rattle.judge_many.specs.declared.parts.Blocked.{Blocked}
-use Rattle.judge_many.specs.declared.judging.Verdict.{Verdict}
-use Rattle.judge_many.specs.declared.judging.Verdict.TheVariants as verdict
-use Rattle.judge_many.specs.Naming.{object_of, for_object}
-use Rattle.judge_many.proofs.Blocking.{line_at}
-use Rattle.judge_many.proofs.ByNames.{part_lines}
+use Rattle.judge_text.specs.ByObject.{AreBlocked}
+use Rattle.judge_text.specs.Runs.{name_of, lines_for}
+use Rattle.judge_text.specs.declared.parts.Blocked.{Blocked}
+use Rattle.judge_text.specs.declared.by_object.Verdict.{Verdict}
+use Rattle.judge_text.specs.declared.by_object.Verdict.TheVariants as verdict
+use Rattle.judge_text.specs.Classing.{object_of, for_object}
+use Rattle.judge_text.proofs.Blocking.{line_at}
+use Rattle.judge_text.proofs.ByNames.{part_lines}
 use Rattle.judge_object.specs.Orders.{IsLinearizable}
 use Rattle.judge_text.specs.declared.counting.Counts.{Counts}
 use Rattle.judge_text.specs.declared.judging.TextVerdict.{TextVerdict}

@@ -11,7 +11,7 @@ use Rattle.judge_search.specs.declared.stuck.Stuck.{Stuck}
 use Rattle.judge_search.specs.Calls.{call_of, calls_of}
 use Rattle.judge_search.specs.Point.{made_of}
 use Rattle.judge_search.specs.Stuck.{AreStuck}
-use Rattle.judge_many.specs.declared.parts.Blocked.{Blocked}
+use Rattle.judge_text.specs.declared.parts.Blocked.{Blocked}
 use Rattle.judge_text.specs.declared.judging.TextVerdict.{TextVerdict}
 use Rattle.judge_text.specs.declared.verdict.Outcome.{Outcome}
 use Rattle.judge_text.specs.Language.{Language}

@@ -6,11 +6,11 @@ use Rattle.judge_object.specs.declared.line.Line.{Line}
 use Rattle.judge_object.specs.Orders.{IsLinearizable}
 use Rattle.judge_search.specs.Calls.{calls_of}
 use Rattle.judge_search.specs.Walk.{InTurn}
-use Rattle.judge_many.specs.declared.judging.Verdict.{Verdict}
-use Rattle.judge_many.specs.declared.judging.Verdict.TheVariants as verdict
-use Rattle.judge_many.specs.Many.{many}
-use Rattle.judge_many.specs.Naming.{object_of, for_object}
-use Rattle.judge_many.specs.Verdict.{IsVerdictOn}
+use Rattle.judge_text.specs.declared.by_object.Verdict.{Verdict}
+use Rattle.judge_text.specs.declared.by_object.Verdict.TheVariants as verdict
+use Rattle.judge_text.specs.Many.{many}
+use Rattle.judge_text.specs.Classing.{object_of, for_object}
+use Rattle.judge_text.specs.Verdict.{IsVerdictOn}
 use Rattle.judge_text.specs.declared.counting.Counts.{Counts}
 use Rattle.judge_text.specs.declared.judging.TextVerdict.{TextVerdict}
 use Rattle.judge_text.specs.declared.judging.TextVerdict.TheVariants.{Fault, Judged}

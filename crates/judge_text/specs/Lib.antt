@@ -8,3 +8,12 @@ pub mod Judging
 pub mod Texts
 pub mod Naming
 pub mod Program
+pub mod Many
+pub mod Numbers
+pub mod Runs
+pub mod Starts
+pub mod Classes
+pub mod Classing
+pub mod ByObject
+pub mod Turns
+pub mod Verdict

@@ -4,10 +4,10 @@ use Rattle.judge_object.specs.Rules.{Rules, IsAnswerOf}
 use Rattle.judge_object.specs.Call.{Call, is_completed}
 use Rattle.judge_object.specs.Linear.{IsCallAt}
 use Rattle.judge_object.specs.Orders.{IsLinearizable}
-use Rattle.judge_many.specs.Many.{part}
-use Rattle.judge_many.specs.declared.judging.Verdict.{Verdict}
-use Rattle.judge_many.specs.declared.judging.Verdict.TheVariants as verdict
-use Rattle.judge_many.specs.Naming.{object_of, for_object}
+use Rattle.judge_text.specs.Many.{part}
+use Rattle.judge_text.specs.declared.by_object.Verdict.{Verdict}
+use Rattle.judge_text.specs.declared.by_object.Verdict.TheVariants as verdict
+use Rattle.judge_text.specs.Classing.{object_of, for_object}
 use Rattle.judge_text.specs.declared.judging.TextVerdict.{TextVerdict}
 use Rattle.judge_text.specs.declared.judging.TextVerdict.TheVariants.{Fault, Judged}
 use Rattle.judge_text.specs.Language.{Language}

@@ -8,10 +8,10 @@ use Rattle.judge_search.specs.declared.stuck.Stuck.{Stuck}
 use Rattle.judge_search.specs.Calls.{calls_of}
 use Rattle.judge_search.specs.Point.{made_of}
 use Rattle.judge_search.specs.Stuck.{AreStuck}
-use Rattle.judge_many.specs.declared.parts.Blocked.{Blocked}
-use Rattle.judge_many.specs.declared.judging.Verdict.{Verdict}
-use Rattle.judge_many.specs.declared.judging.Verdict.TheVariants as verdict
-use Rattle.judge_many.specs.Naming.{object_of, for_object}
+use Rattle.judge_text.specs.declared.parts.Blocked.{Blocked}
+use Rattle.judge_text.specs.declared.by_object.Verdict.{Verdict}
+use Rattle.judge_text.specs.declared.by_object.Verdict.TheVariants as verdict
+use Rattle.judge_text.specs.Classing.{object_of, for_object}
 use Rattle.judge_text.specs.declared.counting.Counts.{Counts}
 use Rattle.judge_text.specs.declared.fault.CallFault.{CallFault}
 use Rattle.judge_text.specs.declared.judging.TextVerdict.{TextVerdict}

@@ -1,11 +1,12 @@
 //! Counting the calls, clients and objects of a history.
 
 ghost use Rattle.std.specs.Prelude.{◌≡◌, IfOk};
-ghost use Rattle.judge_many.specs.Naming.{object_of, for_object};
+ghost use Rattle.judge_text.specs.Classing.{object_of, for_object};
 ghost use Rattle.judge_search.specs.Calls.{calls_of};
 ghost use Rattle.judge_text.specs.Counting.{clients_in, objects_in, counts_of};
 
-use judge_many::{Named, Names};
+use crate::named::Named;
+use crate::names::Names;
 use judge_object::Line;
 use std::alloc::{AllocError, Global};
 use std::collections::{BTreeSet, HashSet};

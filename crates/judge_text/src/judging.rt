@@ -1,14 +1,16 @@
 //! The verdict on a text.
 
 ghost use Rattle.std.specs.Prelude.{IfOk};
-ghost use Rattle.judge_many.specs.Starts.{start_of};
+ghost use Rattle.judge_text.specs.Starts.{start_of};
 ghost use Rattle.judge_text.specs.Judging.{IsVerdictOnText, DecidesLegal};
 
+use crate::by_object::{Verdict, judge_many};
 use crate::counting::Counts;
 use crate::fault::CallFault;
 use crate::history::{Reading, read_history};
+use crate::names::Names;
+use crate::starts::Starts;
 use crate::worded::TextObject;
-use judge_many::{Names, Starts, Verdict, judge_many};
 use judge_object::Watcher;
 use std::alloc::{AllocError, Global};
 

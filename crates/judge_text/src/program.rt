@@ -2,14 +2,14 @@
 
 ghost use Rattle.std.specs.Prelude.{◌≡◌, ◌≢◌, IfOk, IfErr};
 ghost use Rattle.vac_lines.specs.Writing.{AppendsPrefix};
-ghost use Rattle.judge_many.specs.Starts.{start_of};
+ghost use Rattle.judge_text.specs.Starts.{start_of};
 ghost use Rattle.judge_text.specs.Program as spec;
 ghost use Rattle.judge_text.specs.Program.{HasRead, JudgesText, HasJudged, HasStopped, HasEnded};
 
 use crate::judging::judge_text;
+use crate::starts::Starts;
 use crate::verdict::{Outcome, print_verdict};
 use crate::worded::TextObject;
-use judge_many::Starts;
 use std::alloc::{AllocError, Global};
 use std::io::{ErrorKind, Read, Write};
 use vac_lines::{CHUNK_BYTES, MOST_READS, StreamFault, write_and_flush};

@@ -2,16 +2,19 @@
 
 ghost use Rattle.std.specs.Prelude.{◌≡◌, ◌++◌, ◌<◌, All, IfOk, OnOk, decimal, flat_map, length};
 ghost use Rattle.vac_lines.specs.Script.{as_line};
-ghost use Rattle.judge_many.specs.Naming.{object_of, for_object};
+ghost use Rattle.judge_text.specs.Classing.{object_of, for_object};
 ghost use Rattle.judge_text.specs.Texts.{fault_text, legal_text, named_text, stuck_text, first_text, part_text};
 ghost use Rattle.judge_text.specs.Texts.{kind_of, outcome_of, AreWithin, HasPlace, HasPlaceIn};
 ghost use Rattle.judge_text.specs.Texts.{IsPrinted, IsBlockedText, IsTextOn, IsTextOf};
 
+use crate::by_object::Verdict;
 use crate::counting::Counts;
 use crate::fault::CallFault;
 use crate::judging::TextVerdict;
+use crate::named::Named;
+use crate::names::Names;
+use crate::parts::Blocked;
 use crate::quoting::print_quoted;
-use judge_many::{Blocked, Named, Names, Verdict};
 use judge_object::{Line, Object};
 use judge_search::{Stuck, stuck_calls};
 use std::alloc::{AllocError, Global};

@@ -4,7 +4,7 @@ ghost use Rattle.std.specs.Prelude.{◌≡◌, IfOk};
 ghost use Rattle.vac_lines.specs.Lines.{texts};
 ghost use Rattle.judge_text.specs.Language.{Language};
 
-use judge_many::Named;
+use crate::named::Named;
 use std::alloc::{AllocError, Global};
 
 /// An object whose operations and replies are words of a line.

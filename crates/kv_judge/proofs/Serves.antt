@@ -5,8 +5,8 @@ use Rattle.vac_lines.specs.declared.stream_fault.StreamFault.{StreamFault}
 use Rattle.vac_lines.specs.declared.stream_fault.StreamFault.TheVariants.{Memory}
 use Rattle.judge_text.specs.Program.{HasRead, HasEnded, fault_line}
 use Rattle.judge_text.specs.declared.program.TheConstants.{STEPS}
-use Rattle.judge_many.specs.Starts.{start_of}
-use Rattle.judge_many.specs.declared.starts.Starts.{Starts}
+use Rattle.judge_text.specs.Starts.{start_of}
+use Rattle.judge_text.specs.declared.starts.Starts.{Starts}
 use Rattle.judge_kv.specs.declared.starting.FirstValues.{FirstValues}
 use Rattle.judge_kv.specs.declared.starting.FirstValues.TheVariants.{Given, Fault}
 use Rattle.judge_kv.specs.declared.starting.StartFault.{StartFault}

@@ -5,7 +5,7 @@ use Rattle.vac_lines.specs.Script.{as_line}
 use Rattle.vac_lines.specs.Writing.{AppendsPrefix}
 use Rattle.vac_lines.specs.declared.stream_fault.StreamFault.{StreamFault}
 use Rattle.vac_lines.specs.declared.stream_fault.StreamFault.TheVariants.{Memory}
-use Rattle.judge_many.specs.Naming.{AreOwn}
+use Rattle.judge_text.specs.Classing.{AreOwn}
 use Rattle.judge_text.specs.Program.{HasRead, HasEnded, fault_line}
 use Rattle.judge_text.specs.declared.program.TheConstants.{STEPS}
 use Rattle.judge_kv.specs.declared.starting.StartFault.{StartFault}

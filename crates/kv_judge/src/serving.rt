@@ -13,8 +13,7 @@ ghost use Rattle.kv_judge.specs.declared.options.Scope.TheVariants.{EachKey, Who
 use crate::files::Open;
 use crate::options::{Asked, Scope, read_asked};
 use judge_kv::{Cell, FirstValues, StartFault, StartValues, Store, read_first_values};
-use judge_many::Starts;
-use judge_text::{end_by_fault, judge_input, read_all};
+use judge_text::{Starts, end_by_fault, judge_input, read_all};
 use std::alloc::{AllocError, Global};
 use std::io::{Read, Write};
 use vac_lines::{StreamFault, append_field, write_and_flush};

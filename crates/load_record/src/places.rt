@@ -2,7 +2,7 @@
 
 ghost use Rattle.std.specs.Prelude.{◌≡◌};
 
-use stm_words::Version;
+use stm_core::Version;
 use vac_manager::CommitPosition;
 
 /// Returns the commit position at the first version, of its writer or of a reader.

@@ -9,7 +9,7 @@ use crate::{StampClock, stamp};
 use std::alloc::{AllocError, Global};
 use std::mem;
 use stm_attempt::Stop;
-use stm_words::Version;
+use stm_core::Version;
 use tx_memory::{Observed, TxMem, TxRead};
 use vac_manager::{Body, CommitPosition, Object, TracedAttempt, Tracer};
 

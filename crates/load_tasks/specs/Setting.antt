@@ -1,6 +1,6 @@
 -- The settings with which a load can be run.
 use Rattle.std.specs.Prelude.{◌*◌, Bool, ◌&&◌, nat_le, nat_lt}
-use Rattle.stm_words.specs.declared.version.TheConstants.{VERSION_LIMIT}
+use Rattle.stm_core.specs.declared.version.TheConstants.{VERSION_LIMIT}
 use Rattle.vac_model.specs.Amounts.{is_list_length}
 use Rattle.vac_model.specs.declared.limits.TheConstants.{MOST_BLOCKS, MOST_TRIES}
 use Rattle.load_tasks.specs.declared.settings.Settings.{Settings}

@@ -3,7 +3,7 @@
 ghost use Rattle.std.specs.Prelude.{◌≡◌};
 ghost use Rattle.load_tasks.specs.Setting.{is_settings, is_system, is_work};
 
-use stm_words::VERSION_LIMIT;
+use stm_core::VERSION_LIMIT;
 use vac_model::limits::{MOST_BLOCKS, MOST_PARTS, MOST_TRIES};
 
 /// Largest number of clients of a load.

@@ -2,9 +2,8 @@
 //! `CLIENT BEGIN END OPERATION -> REPLY`, in any order, each client's in its own.
 #![tactic(auto)]
 
-use judge_many::Starts;
 use judge_queue::Queue;
-use judge_text::judge_input;
+use judge_text::{Starts, judge_input};
 use std::process::ExitCode;
 
 fn main(rt: HostRuntime) -> ExitCode {

@@ -5,7 +5,7 @@ use Rattle.std.proofs.Common.{◌∷◌, ◌++◌, arith}
 use Rattle.std.proofs.lemmas.Bool.{ne_eqb}
 use Rattle.std.proofs.lemmas.List.{map-append}
 use Rattle.tx_memory.specs.Image.{In}
-use Rattle.stm_words.specs.LockWord.{free_word}
+use Rattle.stm_core.specs.LockWord.{free_word}
 use Rattle.tx_memory.specs.Paired.{in_later}
 use Rattle.stm_core.specs.Client.{Client, probed, locked, writes_to, word_before, version_of, IsFree, Stamp, RecordLaw}
 use Rattle.stm_core.specs.Event.{probe, lock, after, stepping, holding, failing, Bounds}

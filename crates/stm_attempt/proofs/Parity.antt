@@ -1,7 +1,7 @@
 -- A lock word is free or held.
 use Rattle.std.proofs.Common.{◌≡◌, ◌⊎◌, inl, inr, ℕ, ◌*◌, ◌/◌, arith, Bool, true, false}
 use Rattle.std.proofs.lemmas.Bool.{cases_lt}
-use Rattle.stm_words.specs.LockWord.{free_word, held_word}
+use Rattle.stm_core.specs.LockWord.{free_word, held_word}
 use Rattle.stm_core.specs.Client.{IsFree}
 use Rattle.stm_attempt.specs.Conflicts.{SaysHeld}
 

@@ -5,7 +5,7 @@ use Rattle.std.proofs.lemmas.Bool.{ne_eqb, le-leb, lt-leb}
 use Rattle.std.proofs.Math.Bool.{or-true}
 use Rattle.std.specs.Prelude.{◌≡◌, ◌↔◌, leb, true}
 use Rattle.std.specs.FinMap.{get}
-use Rattle.stm_words.specs.LockWord.{free_word, held_word}
+use Rattle.stm_core.specs.LockWord.{free_word, held_word}
 use Rattle.stm_logs.specs.Log.{LogValue, log_locks}
 use Rattle.stm_logs.proofs.TableLemmas.{true_false}
 use Rattle.stm_core.specs.Client.{Client, validated, version_of, is_free, writes_to}

@@ -3,7 +3,7 @@ use Rattle.std.specs.Prelude.{◌≡◌, ℕ, ◌+◌, Bool, true, List, [], len
 use Rattle.std.specs.Borrow.{MutBor}
 use Rattle.std.specs.FinMap.{get, len}
 use Rattle.tx_memory.specs.View.{View}
-use Rattle.stm_words.specs.declared.law.Law as Law
+use Rattle.stm_core.specs.declared.law.Law as Law
 use Rattle.stm_core.specs.Client.{Client, Record}
 use Rattle.stm_logs.specs.Log.{LogValue, empty_log, log_pairs}
 use Rattle.stm_region.specs.Shown.{ClientShown}

@@ -3,7 +3,7 @@
 use Rattle.std.specs.Prelude.{◌≡◌, ◌≢◌, ℕ, ◌+◌, ◌*◌, ◌<◌, ◌≤◌, ◌⊎◌, List, true, false, ◌||◌, Option, Some, None}
 use Rattle.std.specs.FinMap.{get}
 use Rattle.tx_memory.specs.Image.{In}
-use Rattle.stm_words.specs.LockWord.{free_word, held_word}
+use Rattle.stm_core.specs.LockWord.{free_word, held_word}
 use Rattle.stm_core.specs.declared.limits.TheConstants.{MOST_TICKS}
 use Rattle.stm_core.specs.Client.{Client, probed, checked, locked, ticked, validated, version_of, is_free}
 use Rattle.stm_logs.specs.Log.{LogValue}

@@ -1,7 +1,7 @@
 -- The value of an attempt that only reads, in contracts.
 use Rattle.std.specs.Prelude.{◌≡◌, ℕ, ◌+◌, Bool, length, Result}
 use Rattle.tx_memory.specs.View.{View}
-use Rattle.stm_words.specs.declared.law.Law as Law
+use Rattle.stm_core.specs.declared.law.Law as Law
 use Rattle.stm_core.specs.Client.{Client}
 use Rattle.stm_logs.specs.Log.{empty_log}
 use Rattle.stm_core.specs.Guards.{stripe_of}

@@ -1,6 +1,6 @@
 //! An attempt: one transaction of one client.
 ghost use Rattle.std.specs.Prelude.{◌≡◌, ◌≢◌, ◌↔◌, ℕ, ◌+◌, ◌*◌, ◌^◌, ◌<◌, ◌≤◌, None, Some, true};
-ghost use Rattle.stm_words.specs.LockWord.{free_word};
+ghost use Rattle.stm_core.specs.LockWord.{free_word};
 ghost use Rattle.stm_core.specs.Core.{IsFreeHanded};
 ghost use Rattle.stm_core.specs.Event.{begin as begins};
 ghost use Rattle.stm_region.specs.declared.limits.TheConstants.{MOST_GRANTS};
@@ -15,8 +15,8 @@ use crate::logs::Logs;
 use crate::reading::read_word;
 use crate::standing::ConsistentReads;
 use std::alloc::{Allocator, Global};
+use stm_core::{Law, LockWord, Version};
 use stm_region::{Client, Region};
-use stm_words::{Law, LockWord, Version};
 use tx_memory::{Addr, TxMem, TxRead};
 
 /// A running transaction of a client, with its read log and its write log.

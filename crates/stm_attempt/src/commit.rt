@@ -22,9 +22,9 @@ use crate::storing::{release_all, store_all};
 use crate::ticking::tick;
 use crate::validating::validate_reads;
 use std::alloc::Allocator;
+use stm_core::{Law, Tag, Version};
 use stm_logs::WriteLog;
 use stm_region::{Client, Region};
-use stm_words::{Law, Tag, Version};
 
 /// Returns whether the tick to a write version decides the attempt, so that no validation follows.
 #[inline]

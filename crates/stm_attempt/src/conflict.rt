@@ -3,7 +3,7 @@ ghost use Rattle.std.specs.Prelude.{◌≡◌};
 ghost use Rattle.stm_attempt.specs.declared.conflict.Refusal.TheVariants.{Memory};
 
 use std::alloc::AllocError;
-use stm_words::Version;
+use stm_core::Version;
 
 /// A conflict with another client, with the word that one of the attempt's own steps found.
 #[derive(Clone, Copy, Debug, PartialEq, Eq)]

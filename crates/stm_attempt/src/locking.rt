@@ -9,9 +9,9 @@ ghost use Rattle.stm_attempt.specs.CommitParts.{returned, IsAbove, CanLock, HasT
 use crate::conflict::Conflict;
 use crate::reading::free_version;
 use std::alloc::Allocator;
+use stm_core::Law;
 use stm_logs::WriteLog;
 use stm_region::{Client, Region};
-use stm_words::Law;
 
 /// Takes a lock above all locks that the client holds, by one load and one exchange.
 #[inline]

@@ -1,6 +1,6 @@
 //! A transaction that only reads.
 ghost use Rattle.std.specs.Prelude.{◌≡◌, ◌↔◌, ℕ, ◌*◌, ◌^◌, ◌<◌, ◌≤◌, [], length, None, Some, true};
-ghost use Rattle.stm_words.specs.LockWord.{free_word};
+ghost use Rattle.stm_core.specs.LockWord.{free_word};
 ghost use Rattle.stm_core.specs.Core.{IsFreeHanded};
 ghost use Rattle.stm_core.specs.Event.{begin as begins, finish as finishes};
 ghost use Rattle.stm_region.specs.declared.limits.TheConstants.{MOST_GRANTS};
@@ -15,8 +15,8 @@ use crate::conflict::{Conflict, Stopped};
 use crate::reading::read_word;
 use crate::standing::ConsistentReads;
 use std::alloc::{Allocator, Global};
+use stm_core::{Law, LockWord, Tag, Version};
 use stm_region::{Client, Region};
-use stm_words::{Law, LockWord, Tag, Version};
 use tx_memory::{Addr, TxRead};
 
 /// A running transaction that only reads. The attempt keeps no log and takes no memory.

@@ -1,6 +1,6 @@
 //! One read of a word of the region.
 ghost use Rattle.std.specs.Prelude.{◌≡◌, ℕ, ◌<◌, ◌^◌, IfOk, IfErr, IfSome, IfNone, IsOk, true};
-ghost use Rattle.stm_words.specs.LockWord.{free_word};
+ghost use Rattle.stm_core.specs.LockWord.{free_word};
 ghost use Rattle.stm_core.specs.Guards.{stripe_of};
 ghost use Rattle.stm_region.specs.Findings.{StandsOn};
 ghost use Rattle.stm_attempt.specs.Begun.{still, CanRead, HasReadWord, is_unfinished};
@@ -9,8 +9,8 @@ ghost use Rattle.stm_attempt.specs.declared.conflict.Conflict.TheVariants.{Newer
 
 use crate::conflict::Conflict;
 use std::alloc::Allocator;
+use stm_core::{Law, LockWord, Version};
 use stm_region::{Client, Region};
-use stm_words::{Law, LockWord, Version};
 use tx_memory::Addr;
 
 /// Returns the version of a free lock's word, or `None` for a held lock.

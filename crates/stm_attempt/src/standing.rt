@@ -4,8 +4,8 @@ ghost use Rattle.stm_region.specs.Findings.{StandsOn};
 
 use std::alloc::Allocator;
 use std::snapshot::Snapshot;
+use stm_core::Law;
 use stm_region::{Client, Region};
-use stm_words::Law;
 
 /// The statement that some fitting image of this size agrees with the client's reads. The type has
 /// no bytes. It exists because a ghost field of the attempt itself cannot speak of the law, since

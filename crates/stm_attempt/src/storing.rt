@@ -6,9 +6,9 @@ ghost use Rattle.stm_attempt.specs.Begun.{IsPlaced, addresses};
 ghost use Rattle.stm_attempt.specs.CommitParts.{CanSettle, HasStored, HasReleased, IsAllStored};
 
 use std::alloc::Allocator;
+use stm_core::Law;
 use stm_logs::WriteLog;
 use stm_region::{Client, Region};
-use stm_words::Law;
 
 /// Writes back all written values, in one walk over them in the order of their locks.
 pub(crate) fn store_all<L: Law, R: Allocator, A: Allocator + Copy>(

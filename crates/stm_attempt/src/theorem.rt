@@ -3,7 +3,7 @@
 ghost use Rattle.std.specs.Prelude.{ℕ, List};
 ghost use Rattle.stm_attempt.specs.Leading.{AreFittingWords, KeepsFitting, LeadsFitting, ReadingsLead, RecordsLead};
 
-use stm_words::Law;
+use stm_core::Law;
 
 /// States that the records of transactions keep images fitting. Suppose that a transaction begins
 /// with an empty write log and carries words of a fitting image to words of a fitting image, for

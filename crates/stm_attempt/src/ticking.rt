@@ -10,10 +10,9 @@ ghost use Rattle.stm_attempt.specs.CommitParts.{IsReady, HasTicked, HasFailedTic
 
 use crate::conflict::{Conflict, Stop};
 use std::alloc::Allocator;
-use stm_core::MOST_TICKS;
+use stm_core::{Law, MOST_TICKS, Tag, Version};
 use stm_logs::WriteLog;
 use stm_region::{Client, Region};
-use stm_words::{Law, Tag, Version};
 
 /// Ticks the clock from the read version on; after each lost tick, from the version that the tick
 /// found. At most `MOST_TICKS` ticks are tried.

@@ -14,9 +14,9 @@ ghost use Rattle.stm_attempt.specs.Validating.{HasValidatedLock};
 use crate::conflict::Conflict;
 use crate::logs::Logs;
 use std::alloc::Allocator;
+use stm_core::{Law, LockWord, Version};
 use stm_logs::WriteLog;
 use stm_region::{Client, Region};
-use stm_words::{Law, LockWord, Version};
 use tx_memory::Addr;
 
 /// Validates the lock of a word that was read: the lock must be free or the client's own, with a

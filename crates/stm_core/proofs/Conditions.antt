@@ -8,7 +8,7 @@ use lib.ListN.{get_elem?}
 use Rattle.std.proofs.lemmas.Bool.Decides.{nat_tests}
 use Rattle.std.specs.List.{list_any, list_all}
 use Rattle.tx_memory.specs.Image.{In}
-use Rattle.stm_words.specs.declared.version.TheConstants.{VERSION_LIMIT}
+use Rattle.stm_core.specs.declared.version.TheConstants.{VERSION_LIMIT}
 use Rattle.stm_core.specs.Client.{Attempt, Client, Phase, running, ending, committed, Step, probed, fetched, version_of}
 use Rattle.stm_core.specs.Client.{IsFree, is_free, is_committed, writes_to, old_version, RecordLaw}
 use Rattle.stm_core.specs.Event.{Action, begin, probe, fetch, check, lock, tick, validate, put, release, give_back}

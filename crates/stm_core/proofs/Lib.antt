@@ -30,3 +30,9 @@ pub mod Tracing
 pub mod Playing
 pub mod Conditions
 pub mod Examples
+pub mod Places
+pub mod Courses
+mod Moving
+mod Going
+mod Causing
+mod ConflictExamples

@@ -1,7 +1,7 @@
 -- The value of one client, as plain data: its grants, the records of its committed calls, and its
 -- attempt.
 use Rattle.std.specs.Prelude.{◌≡◌, ℕ, ◌+◌, ◌*◌, ◌-◌, ◌/◌, Bool, true, false, cond, eqb, ltb, ◌||◌, ◌&&◌, List, [], ◌∷◌, Option, Some, None}
-use Rattle.stm_words.specs.LockWord.{free_word}
+use Rattle.stm_core.specs.LockWord.{free_word}
 
 -- one committed call: its reads and writes, and its commit position. The version of a writer is
 -- its write version, the version of a reader its read version

@@ -4,8 +4,8 @@ use Rattle.stm_core.specs.Client.{Client, Record, Stamp, word_before, old_versio
 use Rattle.stm_core.specs.Event.{Action, begin, probe, fetch, check, lock, tick, validate, put, release, give_back, finish, is_empty, Bounds, after, giving, fresh, taking, renewing, gone, opener}
 use Rattle.stm_core.specs.Guards.{may_act, IsLawful}
 use Rattle.stm_core.specs.declared.limits.TheConstants.{MOST_RENEWALS}
-use Rattle.stm_words.specs.LockWord.{free_word}
-use Rattle.stm_words.specs.declared.version.TheConstants.{VERSION_LIMIT}
+use Rattle.stm_core.specs.LockWord.{free_word}
+use Rattle.stm_core.specs.declared.version.TheConstants.{VERSION_LIMIT}
 
 -- the state of a region: its words, its clients' values, and the images on which it was opened
 pub record Core : Type 0 where

@@ -10,3 +10,8 @@ pub mod Merging
 pub mod Listed
 pub mod Theorem
 pub mod Examples
+pub mod LockWord
+pub mod Conflicts
+pub mod Causes
+pub mod Progress
+pub mod ConflictExamples

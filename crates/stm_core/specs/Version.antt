@@ -1,7 +1,7 @@
 -- The version invariant: the properties of the words and of all clients' values after every event.
 use Rattle.std.specs.Prelude.{◌≡◌, ◌≢◌, ℕ, suc, ◌-◌, ◌≤◌, ◌<◌, ◌⊎◌, true, false, Bool, List}
 use Rattle.tx_memory.specs.Image.{In}
-use Rattle.stm_words.specs.LockWord.{held_word}
+use Rattle.stm_core.specs.LockWord.{held_word}
 use mathlib.Core.Option.{some}
 use lib.ListN.{get_elem?}
 use Rattle.stm_core.specs.Client.{Client, Record, Step, probed, fetched, decided, version_of, IsFree, writes_to, base}

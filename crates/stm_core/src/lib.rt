@@ -7,8 +7,14 @@
 //! `stm_replay`.
 #![tactic(auto)]
 
+mod causation;
+mod law;
 mod limits;
 mod theorem;
+mod version;
 
+pub use causation::{every_conflict_has_a_cause, worked_conflicts_have_their_causes};
+pub use law::{FreeLaw, Law, Tag, Writes, law_keeps_fitting};
 pub use limits::{MOST_GRANTS, MOST_RENEWALS, MOST_STRIPES, MOST_TICKS, MOST_WORDS};
 pub use theorem::{core_theorem, core_theorem_of, worked_lists_have_their_records};
+pub use version::{LockWord, VERSION_LIMIT, Version};

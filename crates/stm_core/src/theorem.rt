@@ -4,7 +4,7 @@
 ghost use Rattle.stm_core.specs.Examples.{WorkedLists};
 ghost use Rattle.stm_core.specs.Theorem.{EveryListIsSerializable, free_law};
 
-use stm_words::Law;
+use crate::law::Law;
 
 /// States the core theorem: every core that a list of allowed events leads to is serializable,
 /// from any image, any last version and any number of stripes.

@@ -9,7 +9,7 @@ use crate::chain::{Locks, Pairs, Words};
 use crate::table::Table;
 use std::alloc::{AllocError, Allocator, Global};
 use std::marker::Model;
-use stm_words::Writes;
+use stm_core::Writes;
 use tx_memory::Addr;
 
 /// A finite map from addresses to values, with the number of each address's lock. The log keeps

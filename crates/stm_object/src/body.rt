@@ -5,7 +5,7 @@ ghost use Rattle.stm_object.specs.Bodies.{HasValue, HasEffect};
 
 use crate::object::Object;
 use std::marker::PhantomData;
-use stm_words::Tag;
+use stm_core::Tag;
 use tx_memory::{TxMem, TxRead};
 
 /// A transaction that may write, over any memory. `entry_of` is the entry of an answer, and

@@ -3,7 +3,7 @@
 ghost use Rattle.stm_object.specs.Object.{Specification, IsLocal, IsDetermined};
 
 use std::marker::PhantomData;
-use stm_words::Law;
+use stm_core::Law;
 
 /// A state that each user of an object keeps for itself, outside the shared words.
 pub trait UserState: Drop {

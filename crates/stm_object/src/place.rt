@@ -1,6 +1,6 @@
 //! The commit position of a record.
 
-use stm_words::Version;
+use stm_core::Version;
 
 /// The commit position of a record in its region. Records are ordered by renewal, then by version;
 /// the writer of a version comes before its readers.

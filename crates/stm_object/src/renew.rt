@@ -7,8 +7,8 @@ ghost use Rattle.stm_object.specs.Renewed.{ClosesSomewhere, StaysUnrenewed};
 
 use crate::object::Object;
 use crate::shared::{Shared, User};
+use stm_core::Version;
 use stm_region::{RegionFault, RenewFault as RegionRenewFault};
-use stm_words::Version;
 
 /// The reason why a memory was not renewed.
 #[derive(Drop)]

@@ -13,8 +13,8 @@ use crate::place::CommitPosition;
 use std::alloc::Global;
 use std::marker::Model;
 use stm_attempt::{Logs, Stop};
+use stm_core::Version;
 use stm_region::{Client, Region, RegionFault};
-use stm_words::Version;
 
 /// A memory of an object, used by many users at once. Contracts see its region.
 #[derive(Drop)]

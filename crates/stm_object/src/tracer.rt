@@ -13,7 +13,7 @@ use crate::body::Body;
 use crate::object::Object;
 use crate::place::CommitPosition;
 use stm_attempt::Stop;
-use stm_words::Version;
+use stm_core::Version;
 use tx_memory::{TxMem, TxRead};
 
 /// A tracer of the attempts of a call, which may also trace nothing. A tracer runs the bodies, so

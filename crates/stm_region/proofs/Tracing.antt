@@ -6,7 +6,7 @@ use mathlib.Core.Option.{some}
 use mathlib.Core.Logic.{dite}
 use native.Mathlib.Decide.{ℕ_discrete}
 use lib.ListN.{get_elem?}
-use Rattle.stm_words.specs.declared.version.TheConstants.{VERSION_LIMIT}
+use Rattle.stm_core.specs.declared.version.TheConstants.{VERSION_LIMIT}
 use Rattle.stm_core.specs.declared.limits.TheConstants.{MOST_RENEWALS}
 use Rattle.stm_core.specs.Client.{Client, Stamp, RecordLaw}
 use Rattle.stm_core.specs.Event.{Action, after, giving, fresh, taking, renewing, gone, opener}

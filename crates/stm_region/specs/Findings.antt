@@ -14,7 +14,7 @@ use Rattle.stm_core.specs.History.{Serial, Sub, all_records, image_at}
 use Rattle.stm_region.specs.Shown.{RegionShown, opened_with, unplaced, value_after}
 use Rattle.stm_region.specs.Traced.{IsTraced}
 use Rattle.stm_region.specs.declared.limits.TheConstants.{MOST_GRANTS}
-use Rattle.stm_words.specs.declared.version.TheConstants.{VERSION_LIMIT}
+use Rattle.stm_core.specs.declared.version.TheConstants.{VERSION_LIMIT}
 
 -- the version is at most the last version, and below the limit of versions
 pub record IsVersion (last version : ℕ) : Type 0 where

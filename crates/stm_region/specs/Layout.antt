@@ -7,7 +7,7 @@ use Rattle.stm_core.specs.Event.{Action, begin, probe, fetch, check, lock, tick,
 use Rattle.stm_region.specs.Shown.{Opened, RegionShown, MayStep}
 use Rattle.stm_core.specs.Guards.{stripe_of}
 use Rattle.stm_region.specs.declared.layout.TheConstants.{CLOCK, FIRST_LOCK, LINE_WORDS}
-use Rattle.stm_words.specs.declared.version.TheConstants.{VERSION_LIMIT}
+use Rattle.stm_core.specs.declared.version.TheConstants.{VERSION_LIMIT}
 use Rattle.stm_core.specs.declared.limits.TheConstants.{MOST_WORDS, MOST_STRIPES}
 
 -- the number of words between the lock words and the data words, which fill the last cache line of

@@ -11,7 +11,7 @@ use Rattle.stm_core.specs.Guards.{stripe_of}
 use Rattle.stm_region.specs.Layout.{padding}
 use Rattle.stm_region.specs.Traced.{IsTraced}
 use Rattle.stm_region.specs.declared.layout.TheConstants.{FIRST_LOCK}
-use Rattle.stm_words.specs.declared.version.TheConstants.{VERSION_LIMIT}
+use Rattle.stm_core.specs.declared.version.TheConstants.{VERSION_LIMIT}
 
 -- the words of a core in the order of a table: the clock, a gap, the lock words, a padding and the
 -- data words

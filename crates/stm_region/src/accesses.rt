@@ -14,7 +14,7 @@ use crate::region::Region;
 use crate::view::View;
 use atomic_table::Seat;
 use std::alloc::Allocator;
-use stm_words::{Law, Tag, Version, Writes};
+use stm_core::{Law, Tag, Version, Writes};
 
 impl<L: Law, A: Allocator> Region<L, A> {
     /// Loads a word.

@@ -8,7 +8,7 @@ use crate::version::as_version;
 use crate::view::View;
 use atomic_table::Seat;
 use std::marker::{Model, PhantomData};
-use stm_words::{Law, Version};
+use stm_core::{Law, Version};
 
 /// A client of a region: the right to make its steps. Contracts see the client's table and its
 /// value: its running attempt, the locks that it holds and the records of its commits.

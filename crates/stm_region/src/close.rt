@@ -12,7 +12,7 @@ use crate::limits::MOST_GRANTS;
 use crate::region::Region;
 use atomic_table::Closed;
 use std::alloc::Allocator;
-use stm_words::{Law, Version};
+use stm_core::{Law, Version};
 
 /// Appends a word without allocating: the caller has reserved the room.
 fn push<A: Allocator>(words: &mut Vec<u64, A>, word: u64)

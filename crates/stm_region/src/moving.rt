@@ -8,7 +8,7 @@ ghost use Rattle.stm_region.specs.Findings.{acting};
 use crate::view::View;
 use atomic_table::{Join, Play, Split};
 use std::marker::{Brand, PhantomData};
-use stm_words::Law;
+use stm_core::Law;
 
 /// The step of a region that an access stands for.
 pub trait AccessStep {

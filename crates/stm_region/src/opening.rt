@@ -8,7 +8,7 @@ use boxcar::tag::Tag;
 use std::alloc::{Allocator, Global};
 use std::marker::{Model, PhantomData};
 use std::snapshot::Snapshot;
-use stm_words::Law;
+use stm_core::Law;
 
 /// The opening of a region, which the invariant of its table is given once: the words at the
 /// opening, the last version and the number of lock words. After a renewal also: the words of the

@@ -4,7 +4,7 @@ ghost use Rattle.std.specs.Prelude.{◌≡◌};
 ghost use Rattle.stm_region.specs.Shown.{KeepsProbe};
 
 use crate::client::Client;
-use stm_words::Law;
+use stm_core::Law;
 
 /// A lock that a client's last step has probed, with the word that the probe found. The value
 /// keeps the client, so that no other step of the client comes between the probe and the exchange.

@@ -24,7 +24,7 @@ use atomic_table::Table;
 use std::alloc::{Allocator, Global};
 use std::marker::Model;
 use std::snapshot::Snapshot;
-use stm_words::{Law, Version};
+use stm_core::{Law, Version};
 use tx_memory::Addr;
 
 /// The shared words of a transactional memory. Contracts see the region's table, its size, and the

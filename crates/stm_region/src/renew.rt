@@ -16,7 +16,7 @@ use atomic_table::Table;
 use boxcar::tag::{Names, Tag};
 use std::alloc::{Allocator, Global};
 use std::snapshot::Snapshot;
-use stm_words::{Law, Version};
+use stm_core::{Law, Version};
 
 /// The reason why a region was not renewed.
 #[derive(Drop)]

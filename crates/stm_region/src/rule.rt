@@ -8,7 +8,7 @@ ghost use Rattle.stm_region.specs.Shown.{with_gathered};
 ghost use Rattle.stm_region.specs.Rule.{Always, OfEach, OfEachTwo};
 ghost use Rattle.stm_region.specs.Running.{IsListed};
 
-use stm_words::Law;
+use stm_core::Law;
 
 /// States that running threads are a list of events: between any two steps of any threads, a list
 /// of allowed events leads from the first opening to a core with the table's words and clients.

@@ -17,7 +17,7 @@ use crate::region::Region;
 use crate::version::as_version;
 use std::alloc::Allocator;
 use std::marker::Brand;
-use stm_words::{Law, LockWord, Tag, Version, Writes};
+use stm_core::{Law, LockWord, Tag, Version, Writes};
 use tx_memory::Addr;
 
 impl<L: Law, A: Allocator> Region<L, A> {

@@ -1,9 +1,9 @@
 //! Versions of numbers that are known to be in range.
 
 ghost use Rattle.std.specs.Prelude.{◌≡◌, ◌<◌};
-ghost use Rattle.stm_words.specs.declared.version.TheConstants.{VERSION_LIMIT};
+ghost use Rattle.stm_core.specs.declared.version.TheConstants.{VERSION_LIMIT};
 
-use stm_words::Version;
+use stm_core::Version;
 
 /// Returns the version of a number that is in range.
 #[inline]

@@ -3,7 +3,7 @@ use Rattle.std.proofs.Common.{◌≡◌, ◌≢◌, ℕ, ◌+◌, ◌-◌, ◌%�
 use Rattle.stm_core.specs.Client.{is_committed, word_before, IsFree}
 use Rattle.stm_core.specs.Event.{Action, probe, fetch, lock, tick, validate, put, release, give_back}
 use Rattle.stm_core.specs.declared.limits.TheConstants.{MOST_GRANTS, MOST_RENEWALS, MOST_TICKS}
-use Rattle.stm_words.specs.declared.version.TheConstants.{VERSION_LIMIT}
+use Rattle.stm_core.specs.declared.version.TheConstants.{VERSION_LIMIT}
 use Rattle.stm_core.specs.Core.{Core, bounds_of, client_of, acts, splits, gathers, renews, may_play, is_out}
 use Rattle.stm_core.specs.Theorem.{free_law}
 use Rattle.stm_replay.specs.Running.{may_run, IsSane, IsThere, stripes_of}

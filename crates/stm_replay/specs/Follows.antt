@@ -6,7 +6,7 @@ use Rattle.stm_core.specs.Theorem.{free_law, Reaches, IsHistory}
 use Rattle.stm_core.specs.Guards.{stripe_of}
 use Rattle.stm_replay.specs.Running.{Running, entry_of_record, stripes_of, may_run, has_number, shown_core, run_opened, found_of, ran}
 use Rattle.stm_replay.specs.declared.event.Entry.{Entry}
-use Rattle.stm_words.specs.declared.version.TheConstants.{VERSION_LIMIT}
+use Rattle.stm_core.specs.declared.version.TheConstants.{VERSION_LIMIT}
 
 -- the core has exactly one history; the entries and the points are those of its records, in the
 -- order of that history

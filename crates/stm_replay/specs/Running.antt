@@ -10,7 +10,7 @@ use Rattle.stm_replay.specs.Placing.{Placed, put_in}
 use Rattle.stm_replay.specs.declared.event.Entry.{Entry}
 use Rattle.stm_core.specs.declared.limits.TheConstants.{MOST_GRANTS}
 use Rattle.stm_replay.specs.declared.limits.TheConstants.{MOST_CLIENTS}
-use Rattle.stm_words.specs.declared.version.TheConstants.{VERSION_LIMIT}
+use Rattle.stm_core.specs.declared.version.TheConstants.{VERSION_LIMIT}
 
 -- the running core: the part of the core that is kept, and the decided records in the order of
 -- their point steps, with the positions of these steps in the list of events

@@ -5,11 +5,11 @@ ghost use Rattle.std.specs.List.{list_any, list_all};
 ghost use Rattle.stm_core.specs.Client.{writes_to, old_version, is_free, without};
 ghost use Rattle.stm_core.specs.Event.{is_empty};
 ghost use Rattle.stm_core.specs.Guards.{is_map, is_next, are_stored, may_write, stripe_of};
-ghost use Rattle.stm_words.specs.LockWord.{free_word};
-ghost use Rattle.stm_words.specs.declared.version.TheConstants.{VERSION_LIMIT};
+ghost use Rattle.stm_core.specs.LockWord.{free_word};
+ghost use Rattle.stm_core.specs.declared.version.TheConstants.{VERSION_LIMIT};
 
 use std::alloc::Allocator;
-use stm_words::{LockWord, Version};
+use stm_core::{LockWord, Version};
 
 /// Returns whether some pair has this number as its first component.
 pub(crate) fn names(pairs: &[(u32, u64)], number: u32) -> bool

@@ -6,7 +6,7 @@ ghost use Rattle.stm_replay.specs.Running.{may_run, stripes_of, run_played, run_
 ghost use Rattle.stm_replay.specs.Refusals.{IsRefusal};
 ghost use Rattle.stm_replay.specs.Follows.{IsReached, IsOrderOfCore};
 ghost use Rattle.stm_core.specs.declared.limits.TheConstants.{MOST_WORDS, MOST_STRIPES};
-ghost use Rattle.stm_words.specs.declared.version.TheConstants.{VERSION_LIMIT};
+ghost use Rattle.stm_core.specs.declared.version.TheConstants.{VERSION_LIMIT};
 
 use crate::event::{Entry, Event, NotAllowed};
 use crate::state::State;

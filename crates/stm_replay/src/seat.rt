@@ -8,7 +8,7 @@ ghost use Rattle.stm_core.specs.Guards.{is_reading, has_probed, has_found_free, 
 ghost use Rattle.stm_core.specs.Event.{is_empty, passes, begin, probe, fetch, check, lock, tick, validate, put, release, give_back, finish, giving, renewing, opener, fresh, gone, forgetting};
 ghost use Rattle.stm_core.specs.Core.{are_gathered, others_gathered};
 ghost use Rattle.stm_core.specs.declared.limits.TheConstants.{MOST_GRANTS, MOST_TICKS};
-ghost use Rattle.stm_words.specs.declared.version.TheConstants.{VERSION_LIMIT};
+ghost use Rattle.stm_core.specs.declared.version.TheConstants.{VERSION_LIMIT};
 
 use crate::pairs::{
     all_below, all_stored, behind, has, has_pair, is_next, may_write, names, none, says_free,

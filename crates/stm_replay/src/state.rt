@@ -8,7 +8,7 @@ ghost use Rattle.stm_core.specs.Client.{old_version, word_before, IsFree};
 ghost use Rattle.stm_replay.specs.Played.{event_of};
 ghost use Rattle.stm_replay.specs.Running.{may_run, Running, IsSane, IsThere, stripes_of, run_acts, run_played, run_opened, found_of};
 ghost use Rattle.stm_core.specs.declared.limits.TheConstants.{MOST_GRANTS, MOST_RENEWALS, MOST_TICKS};
-ghost use Rattle.stm_words.specs.declared.version.TheConstants.{VERSION_LIMIT};
+ghost use Rattle.stm_core.specs.declared.version.TheConstants.{VERSION_LIMIT};
 
 use crate::event::{Entry, Event, Writes};
 use crate::limits::MOST_CLIENTS;
@@ -17,8 +17,7 @@ use crate::pairs::free_lock;
 use crate::seat::{Seat, others_gathered};
 use std::alloc::{AllocError, Allocator};
 use std::marker::Model;
-use stm_core::MOST_RENEWALS;
-use stm_words::VERSION_LIMIT;
+use stm_core::{MOST_RENEWALS, VERSION_LIMIT};
 
 /// The state of the running core: its words, its clients and the decided records.
 #[derive(Drop)]

@@ -6,7 +6,7 @@ ghost use Rattle.stm_replay.specs.Numbered.{AllowedWithNumbers, EveryEventIsPlay
 ghost use Rattle.stm_replay.specs.Opacity.{EveryListIsOpaque};
 
 use std::alloc::Allocator;
-use stm_words::Law;
+use stm_core::Law;
 
 /// States that the running core follows the abstract core after any list of allowed events. The
 /// running core shows the core that the events lead to, and its order is the history of that core.

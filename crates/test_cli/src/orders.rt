@@ -1,7 +1,7 @@
 //! Histories of a few lines that claim no order, with the output of the search.
 
 use crate::texts::Row;
-use judge_levels::Level;
+use judge_object::Level;
 use judge_linear::{Outcome, Settings, order_history};
 use judge_object::Watcher;
 use std::alloc::Global;

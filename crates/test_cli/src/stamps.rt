@@ -7,7 +7,7 @@ use std::cell::Cell;
 use std::io;
 use std::process::Abort;
 use std::time::{Clock, Duration, Instant};
-use stm_words::Version;
+use stm_core::Version;
 use vac_manager::{CommitPosition, PlacedReply, Recorder};
 use vac_model::{Command, Reply, Task};
 

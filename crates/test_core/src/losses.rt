@@ -8,7 +8,7 @@ use std::alloc::{AllocError, Global};
 use std::test::Fail;
 use stm_logs::WriteLog;
 use stm_region::{Client, Region};
-use stm_words::FreeLaw;
+use stm_core::FreeLaw;
 use tx_memory::Addr;
 
 /// Returns the two words that a read finds at its lock if another client writes the word between

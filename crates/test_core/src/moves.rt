@@ -1,13 +1,13 @@
 //! The next event of a client of a random list, as plain numbers.
 
 ghost use Rattle.std.specs.Prelude.{◌<◌, ◌≤◌};
-ghost use Rattle.stm_words.specs.declared.version.TheConstants.{VERSION_LIMIT};
+ghost use Rattle.stm_core.specs.declared.version.TheConstants.{VERSION_LIMIT};
 
 use rand_core::utils::NextWord;
 use rand_pcg::Pcg32;
 use std::alloc::{AllocError, Allocator};
 use stm_replay::{Event, Writes};
-use stm_words::VERSION_LIMIT;
+use stm_core::VERSION_LIMIT;
 
 /// Numbers of words and stripes of a region, and its last version.
 #[derive(Clone, Copy, Debug)]

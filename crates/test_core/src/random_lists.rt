@@ -9,7 +9,7 @@ use std::process::Abort;
 use std::test::Fail;
 use stm_core::MOST_GRANTS;
 use stm_replay::{Core, NotAllowed};
-use stm_words::VERSION_LIMIT;
+use stm_core::VERSION_LIMIT;
 
 const LISTS: u64 = 2000;
 

@@ -9,7 +9,7 @@ use std::alloc::{AllocError, Allocator, Global};
 use std::process::Abort;
 use std::test::Fail;
 use stm_region::{Client, Region, RegionFault, RenewFault};
-use stm_words::FreeLaw;
+use stm_core::FreeLaw;
 use tx_memory::Addr;
 
 /// Renews the region `times` times.

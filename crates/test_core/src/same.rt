@@ -7,7 +7,7 @@ use std::alloc::Allocator;
 use std::fmt::Debug;
 use std::process::Abort;
 use stm_region::{Client, Region, RegionFault, RenewFault};
-use stm_words::FreeLaw;
+use stm_core::FreeLaw;
 
 pub(crate) fn same<T: PartialEq + Debug>(rt: &impl Abort, got: &T, want: &T) {
     assert_eq!(rt; *got, *want);

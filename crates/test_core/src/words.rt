@@ -2,7 +2,7 @@
 ghost use Rattle.std.specs.Prelude.{◌≡◌, ◌<◌, IfOk};
 
 use std::test::Fail;
-use stm_words::{FreeLaw, LockWord, Version, law_keeps_fitting};
+use stm_core::{FreeLaw, LockWord, Version, law_keeps_fitting};
 use tx_memory::{Addr, Flat, TxMem, TxRead, load, store};
 
 #[test]

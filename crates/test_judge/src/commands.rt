@@ -1,6 +1,6 @@
 //! Parts of completed tasks.
 
-use judge_part::{Scope, task_part};
+use judge_reservations::{Scope, task_part};
 use std::alloc::Global;
 use std::process::Abort;
 use vac_lines::{print_task, read_line};

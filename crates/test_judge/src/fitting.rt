@@ -1,7 +1,7 @@
 //! Calls that have a part, and calls that have none.
 
 use crate::commands::scope;
-use judge_part::fits;
+use judge_reservations::fits;
 use std::alloc::Global;
 use std::process::Abort;
 use vac_lines::read_line;

@@ -1,7 +1,7 @@
 //! The part of a history, on a scope that the history gives.
 
 use judge_object::{Line, NEVER};
-use judge_part::{part_of_history, scope_of};
+use judge_reservations::{part_of_history, scope_of};
 use judge_reservations::ValidTask;
 use std::alloc::Global;
 use std::process::Abort;

@@ -1,6 +1,6 @@
 //! Histories of a few lines that are judged at each level of consistency.
 
-use judge_levels::Level;
+use judge_object::Level;
 use judge_linear::{Outcome, Settings, order_history};
 use std::test::Fail;
 

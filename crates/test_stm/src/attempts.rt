@@ -4,7 +4,7 @@ ghost use Rattle.stm_core.specs.Core.{IsFreeHanded};
 
 use stm_attempt::{Attempt, Logs, NoGate, Refusal, Stop};
 use stm_region::{Client, Region};
-use stm_words::{FreeLaw, Version};
+use stm_core::{FreeLaw, Version};
 use tx_memory::{Addr, TxMem, TxRead};
 
 /// Writes a word in one attempt. Its client then knows the version that the attempt returns, and

@@ -11,7 +11,7 @@ use std::alloc::Global;
 use std::test::Fail;
 use stm_attempt::{Attempt, Logs, NoGate};
 use stm_region::{Client, Region};
-use stm_words::{Law, Version};
+use stm_core::{Law, Version};
 use tx_alloc::{Block, FreeList, fresh_words, give, take};
 use tx_memory::{Addr, Flat, TxMem};
 

@@ -9,7 +9,7 @@ use std::alloc::{AllocError, Global};
 use std::test::Fail;
 use stm_attempt::{Attempt, Logs};
 use stm_region::{Client, Region};
-use stm_words::Law;
+use stm_core::Law;
 use tx_alloc::{Block, FreeList, take};
 use tx_memory::{Addr, TxMem, load};
 use vac_bookings::Key;

@@ -11,7 +11,7 @@ use std::test::Fail;
 use stm_attempt::{Attempt, Logs, NoGate, Refusal, Stop};
 use stm_logs::{ReadLog, WriteLog};
 use stm_region::{Client, Region};
-use stm_words::{FreeLaw, Version};
+use stm_core::{FreeLaw, Version};
 use tx_memory::{Addr, TxMem, TxRead};
 
 /// Pushes addresses until memory is refused. Returns the length of the log.

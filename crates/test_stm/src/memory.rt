@@ -6,7 +6,7 @@ use std::alloc::{Allocator, Global};
 use std::test::Fail;
 use stm_attempt::{Attempt, Logs, NoGate, Refusal, Stop};
 use stm_region::{Region, RegionFault};
-use stm_words::{FreeLaw, Version};
+use stm_core::{FreeLaw, Version};
 use tx_memory::{Addr, TxMem, TxRead};
 
 /// The number of words read or written, the refusal that followed, and the result of the commit.

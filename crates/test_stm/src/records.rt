@@ -9,7 +9,7 @@ use crate::words::has_words;
 use std::test::Fail;
 use stm_attempt::{Attempt, Logs};
 use stm_region::{Client, Region};
-use stm_words::Law;
+use stm_core::Law;
 use tx_alloc::Block;
 use tx_memory::{Addr, Flat, TxMem, TxRead};
 use vac_model::Item;

@@ -7,7 +7,7 @@ use std::alloc::Global;
 use std::fmt::Debug;
 use std::process::Abort;
 use stm_region::{Client, Region};
-use stm_words::{Law, Version};
+use stm_core::{Law, Version};
 
 pub(crate) fn same<T: PartialEq + Debug>(rt: &impl Abort, got: &T, want: &T) {
     assert_eq!(rt; *got, *want);

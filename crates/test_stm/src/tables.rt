@@ -9,7 +9,7 @@ use std::alloc::Global;
 use std::test::Fail;
 use stm_attempt::{Attempt, Logs};
 use stm_region::{Client, Region};
-use stm_words::Law;
+use stm_core::Law;
 use tx_alloc::Block;
 use tx_alloc::place::MOST_BLOCKS;
 use tx_memory::{Addr, Flat, TxMem, TxRead, load};

@@ -11,7 +11,7 @@ use std::thread;
 use std::thread::Threads;
 use stm_attempt::{Attempt, Logs, NoGate};
 use stm_region::{Client, Region};
-use stm_words::FreeLaw;
+use stm_core::FreeLaw;
 use tx_memory::{Addr, TxMem};
 
 const COMMITS: usize = 2_000;

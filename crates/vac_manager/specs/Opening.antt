@@ -9,7 +9,7 @@ use Rattle.tx_alloc.specs.Spread.{IsSpreadHeap}
 use Rattle.vac_model.specs.Ranges.{is_block_count}
 use Rattle.vac_model.specs.State.{State, empty_state}
 use Rattle.stm_core.specs.declared.limits.TheConstants.{MOST_STRIPES}
-use Rattle.stm_words.specs.declared.version.TheConstants.{VERSION_LIMIT}
+use Rattle.stm_core.specs.declared.version.TheConstants.{VERSION_LIMIT}
 use Rattle.vac_manager.specs.Law.{Shows, IsLawful}
 use Rattle.vac_manager.specs.Legal.{IsLegal, AreVersioned, capacity_of}
 use Rattle.vac_manager.specs.Called.{ClientShown}

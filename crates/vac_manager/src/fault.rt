@@ -3,7 +3,7 @@ ghost use Rattle.std.specs.Prelude.{◌≡◌};
 ghost use Rattle.vac_manager.specs.Faults.{fault_of};
 
 use stm_attempt::{Conflict, Stop};
-use stm_words::Version;
+use stm_core::Version;
 use thiserror::Error;
 
 /// The reason why a call returned no reply. After any fault the call has left no trace: the call

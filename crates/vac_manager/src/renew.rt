@@ -5,9 +5,9 @@ ghost use Rattle.vac_manager.specs.Renewed.{Renews, StaysUnrenewed};
 
 use crate::client::Client;
 use crate::manager::Manager;
+use stm_core::Version;
 use stm_object::RenewFault as ObjectRenewFault;
 use stm_region::RegionFault;
-use stm_words::Version;
 
 /// The reason why a manager was not renewed.
 #[derive(Drop)]

@@ -5,8 +5,8 @@ ghost use Rattle.vac_manager.specs.Placed.{conflicts_of, locks_of};
 
 use crate::placed::CallStatistics;
 use stm_attempt::Stop;
+use stm_core::Version;
 use stm_object::{Body, CommitPosition, Object, Tracer};
-use stm_words::Version;
 use tx_memory::{TxMem, TxRead};
 
 /// A tracer that counts the attempts of a call and passes each step on to another tracer.

@@ -1,4 +1,4 @@
-use Rattle.judge_levels.specs.declared.level.Level.TheVariants as level
+use Rattle.judge_object.specs.declared.level.Level.TheVariants as level
 use Rattle.cli_main.proofs.Judgement.{judges_as}
 use Rattle.cli_main.proofs.searching.judge_text.Goals as goal
 

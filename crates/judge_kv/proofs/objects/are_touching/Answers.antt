@@ -1,6 +1,6 @@
 use Rattle.std.proofs.Common.{◌≡◌, Bool, true, false, not, subst, refl}
 use Rattle.judge_search.specs.Calls.{calls_of}
-use Rattle.judge_many.specs.Turns.{AreTurns}
+use Rattle.judge_text.specs.Turns.{AreTurns}
 use Rattle.judge_text.proofs.Legal.{out_of_turn}
 use Rattle.judge_kv.proofs.objects.are_touching.Goals as goal
 

@@ -1,5 +1,5 @@
 use Rattle.std.proofs.Common.{◌≤◌, take}
-use Rattle.judge_many.specs.Classes.{AreWellFormed}
+use Rattle.judge_text.specs.Classes.{AreWellFormed}
 use Rattle.judge_kv.specs.Classes.{AreKeysJoined}
 use Rattle.judge_kv.proofs.Joining.{clause_keys}
 use Rattle.judge_kv.proofs.objects.join_clauses.Given as goal

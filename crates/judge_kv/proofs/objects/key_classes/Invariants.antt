@@ -1,6 +1,6 @@
 use Rattle.std.proofs.Common.{take}
 use Rattle.judge_search.specs.Calls.{calls_of}
-use Rattle.judge_many.specs.Classes.{AreWellFormed}
+use Rattle.judge_text.specs.Classes.{AreWellFormed}
 use Rattle.judge_kv.specs.Classes.{JoinsCalls}
 use Rattle.judge_kv.proofs.objects.key_classes.Given as goal
 

@@ -1,5 +1,5 @@
 use Rattle.judge_search.specs.Calls.{calls_of}
-use Rattle.judge_many.specs.Naming.{object_of}
+use Rattle.judge_text.specs.Classing.{object_of}
 use Rattle.judge_kv.proofs.Joining.{are_together, are_classes}
 use Rattle.judge_kv.proofs.objects.store_objects.Goals as goal
 

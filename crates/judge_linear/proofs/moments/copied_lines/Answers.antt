@@ -1,6 +1,6 @@
 use Rattle.std.proofs.Common.{◌∙◌, ap, map}
 use Rattle.std.proofs.lemmas.List.{take_all}
-use Rattle.judge_part.specs.Lines.{numbered}
+use Rattle.judge_reservations.specs.Lines.{numbered}
 use Rattle.judge_linear.proofs.CutCalls.{copies_more}
 use Rattle.judge_linear.proofs.moments.copied_lines.Goals as goal
 

@@ -1,5 +1,5 @@
 use Rattle.std.proofs.Common.{◌≡◌, map, take}
-use Rattle.judge_part.specs.Lines.{numbered}
+use Rattle.judge_reservations.specs.Lines.{numbered}
 use Rattle.judge_linear.proofs.moments.copied_lines.Given as goal
 
 -- the lines so far are copied

@@ -1,8 +1,8 @@
 use Rattle.std.proofs.Common.{ap, ◌∙◌, subst}
 use Rattle.std.specs.Prelude.{IfSome}
 use Rattle.std.specs.List.{filter_map}
-use Rattle.judge_part.specs.Histories.{part_of_history}
-use Rattle.judge_part.specs.Lines.{line_part}
+use Rattle.judge_reservations.specs.Histories.{part_of_history}
+use Rattle.judge_reservations.specs.Lines.{line_part}
 use Rattle.judge_search.specs.Calls.{calls_of}
 use Rattle.judge_linear.specs.Moments.{IsWrongPart}
 use Rattle.judge_linear.proofs.PartCalls.{sorted_whole, part_none}

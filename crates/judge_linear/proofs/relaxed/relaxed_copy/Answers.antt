@@ -1,6 +1,6 @@
 use Rattle.std.proofs.Common.{subst}
 use Rattle.std.specs.Prelude.{IfSome}
-use Rattle.judge_levels.specs.Relaxed.{IsRelaxed}
+use Rattle.judge_object.specs.Relaxed.{IsRelaxed}
 use Rattle.judge_linear.proofs.Freed.{relaxed_copy}
 use Rattle.judge_linear.proofs.relaxed.relaxed_copy.Goals as goal
 

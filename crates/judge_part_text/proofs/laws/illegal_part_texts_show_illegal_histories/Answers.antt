@@ -4,7 +4,7 @@ use Rattle.vac_model.specs.declared.limits.TheConstants.{MOST_BLOCKS}
 use Rattle.judge_object.specs.Orders.{IsLinearizable}
 use Rattle.judge_reservations.specs.Reserving.{reserving}
 use Rattle.judge_calls.specs.Laws.{Lists}
-use Rattle.judge_part.specs.Histories.{part_of_history}
+use Rattle.judge_reservations.specs.Histories.{part_of_history}
 use Rattle.judge_part_text.proofs.Histories.{same_calls}
 use Rattle.judge_part_text.proofs.laws.illegal_part_texts_show_illegal_histories.Goals as goal
 

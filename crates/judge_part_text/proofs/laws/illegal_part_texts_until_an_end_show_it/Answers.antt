@@ -2,10 +2,10 @@ use Rattle.std.proofs.Common.{subst, sym, ◌∙◌}
 use Rattle.vac_model.specs.State.{empty_state}
 use Rattle.vac_model.specs.declared.limits.TheConstants.{MOST_BLOCKS}
 use Rattle.judge_object.specs.Orders.{IsLinearizable}
-use Rattle.judge_levels.specs.Cut.{cut}
+use Rattle.judge_object.specs.Cut.{cut}
 use Rattle.judge_reservations.specs.Reserving.{reserving}
 use Rattle.judge_calls.specs.Laws.{Lists}
-use Rattle.judge_part.specs.Histories.{part_of_history}
+use Rattle.judge_reservations.specs.Histories.{part_of_history}
 use Rattle.judge_part_text.proofs.Histories.{same_calls}
 use Rattle.judge_part_text.proofs.laws.illegal_part_texts_until_an_end_show_it.Goals as goal
 

@@ -1,7 +1,7 @@
 use Rattle.std.proofs.Common.{sym, subst}
 use Rattle.std.proofs.lemmas.Result.{IfOk-weaker}
 use Rattle.judge_calls.specs.Laws.{Lists}
-use Rattle.judge_part.specs.Lines.{calls_of}
+use Rattle.judge_reservations.specs.Lines.{calls_of}
 use Rattle.judge_part_text.specs.Reading.{IsReadingOf}
 use Rattle.judge_part_text.proofs.Parts.{whole_text, damage_text}
 use Rattle.judge_part_text.proofs.parting.find_text.Goals as goal

@@ -1,8 +1,8 @@
 use Rattle.std.proofs.Common.{◌++◌, ◌∙◌, ap, subst}
 use Rattle.std.specs.Prelude.{IfSome}
 use Rattle.judge_calls.specs.CallText.{history_text}
-use Rattle.judge_part.specs.Lines.{calls_of}
-use Rattle.judge_part.specs.Largest.{IsScopeOf, HasAllClosed, HasAllWhole}
+use Rattle.judge_reservations.specs.Lines.{calls_of}
+use Rattle.judge_reservations.specs.Largest.{IsScopeOf, HasAllClosed, HasAllWhole}
 use Rattle.judge_part_text.proofs.Parts.{no_scope, part_text}
 use Rattle.judge_part_text.proofs.parting.text_of_calls.Goals as goal
 

@@ -1,7 +1,7 @@
 use Rattle.std.proofs.Common.{◌++◌, ap, sym, ◌∙◌, append-nil}
 use Rattle.std.proofs.lemmas.List.{take_all}
 use Rattle.judge_calls.specs.CallText.{history_text}
-use Rattle.judge_part.specs.Lines.{calls_of}
+use Rattle.judge_reservations.specs.Lines.{calls_of}
 use Rattle.judge_part_text.proofs.Texts.{text_more}
 use Rattle.judge_part_text.proofs.printing.print_calls.Goals as goal
 

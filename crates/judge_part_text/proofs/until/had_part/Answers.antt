@@ -1,5 +1,5 @@
 use Rattle.std.proofs.Common.{◌∙◌, sym}
-use Rattle.judge_part.specs.Lines.{call_of}
+use Rattle.judge_reservations.specs.Lines.{call_of}
 use Rattle.judge_part_text.proofs.Then.{line_ended, had_as_is, had_not_begun}
 use Rattle.judge_part_text.proofs.until.had_part.Goals as goal
 

@@ -1,9 +1,9 @@
 use Rattle.std.proofs.Common.{◌+◌, ◌++◌, ◌∙◌, ℕ, List, not, ap, sym, subst}
 use Rattle.std.specs.Prelude.{MatchOption}
 use Rattle.std.specs.List.{position}
-use Rattle.judge_levels.specs.Cut.{cut}
-use Rattle.judge_part.specs.Largest.{HasNoScope}
-use Rattle.judge_part.specs.Lines.{call_of, calls_of}
+use Rattle.judge_object.specs.Cut.{cut}
+use Rattle.judge_reservations.specs.Largest.{HasNoScope}
+use Rattle.judge_reservations.specs.Lines.{call_of, calls_of}
 use Rattle.judge_part_text.specs.Parting.{IsPartOfCalls, no_part_text}
 use Rattle.judge_part_text.specs.Until.{had_part}
 use Rattle.judge_part_text.proofs.Then.{none_then, first_then}

@@ -1,5 +1,5 @@
 use Rattle.std.proofs.lemmas.List.{take_all}
-use Rattle.judge_many.specs.Naming.{object_of, for_object}
+use Rattle.judge_text.specs.Classing.{object_of, for_object}
 use Rattle.judge_text.proofs.Counted.{name_next, objects_of_lines}
 use Rattle.judge_text.proofs.counting.count_objects.Goals as goal
 

@@ -1,5 +1,5 @@
 use Rattle.std.proofs.Common.{map, take}
-use Rattle.judge_many.specs.Naming.{object_of, for_object}
+use Rattle.judge_text.specs.Classing.{object_of, for_object}
 use Rattle.judge_text.proofs.Counted.{HasNames}
 use Rattle.judge_text.proofs.counting.count_objects.Given as goal
 

@@ -1,7 +1,7 @@
 use Rattle.std.proofs.Common.{subst}
 use Rattle.judge_search.specs.Calls.{calls_of}
-use Rattle.judge_many.specs.Naming.{object_of, for_object}
-use Rattle.judge_many.specs.Starts.{start_of}
+use Rattle.judge_text.specs.Classing.{object_of, for_object}
+use Rattle.judge_text.specs.Starts.{start_of}
 use Rattle.judge_text.specs.Reading.{IsReadingOf}
 use Rattle.judge_text.proofs.Counted.{counted_lines}
 use Rattle.judge_text.proofs.Legal.{judged_decides, same}

@@ -1,4 +1,4 @@
-use Rattle.judge_many.specs.Starts.{start_of}
+use Rattle.judge_text.specs.Starts.{start_of}
 use Rattle.judge_text.proofs.Printing.{judged}
 use Rattle.judge_text.proofs.program.find_text.Goals as goal
 

@@ -1,4 +1,4 @@
-use Rattle.judge_many.specs.Naming.{object_of, for_object}
+use Rattle.judge_text.specs.Classing.{object_of, for_object}
 use Rattle.judge_text.proofs.Printing.{within_lines, blocked_printed, on_ok}
 use Rattle.judge_text.proofs.verdict.print_blocked.Goals as goal
 

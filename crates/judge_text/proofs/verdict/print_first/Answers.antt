@@ -1,6 +1,6 @@
 use Rattle.std.proofs.Common.{◌++◌, [], ap, sym, ◌∙◌}
 use Rattle.judge_object.specs.declared.line.Line.{Line}
-use Rattle.judge_many.specs.Naming.{object_of, for_object}
+use Rattle.judge_text.specs.Classing.{object_of, for_object}
 use Rattle.judge_text.specs.Texts.{number_at, named_text}
 use Rattle.judge_text.proofs.Printing.{at_get, on_ok}
 use Rattle.judge_text.proofs.verdict.print_first.Goals as goal

@@ -1,5 +1,5 @@
 use Rattle.std.proofs.Common.{refl}
-use Rattle.judge_many.specs.Starts.{start_of}
+use Rattle.judge_text.specs.Starts.{start_of}
 use Rattle.kv_judge.specs.declared.options.Scope.TheVariants.{EachKey}
 use Rattle.kv_judge.proofs.Serves.{keys_given, file_fault, file_stopped}
 use Rattle.kv_judge.proofs.serving.judge_file.Goals as goal

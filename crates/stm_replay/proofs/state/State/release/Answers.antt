@@ -2,7 +2,7 @@ use Rattle.std.proofs.Common.{refl, ap, ◌∙◌, ℕ, set}
 use Rattle.stm_core.specs.Client.{Client}
 use Rattle.stm_core.specs.Event.{release}
 use Rattle.std.specs.Prelude.{slice_index}
-use Rattle.stm_words.specs.LockWord.{free_word}
+use Rattle.stm_core.specs.LockWord.{free_word}
 use Rattle.stm_replay.specs.Running.{Running}
 use Rattle.stm_replay.specs.StateView.{running_of}
 use Rattle.stm_replay.proofs.Stepping.{acts_is}

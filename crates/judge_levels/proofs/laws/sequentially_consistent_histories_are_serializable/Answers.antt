@@ -1,5 +1,0 @@
-use Rattle.judge_levels.proofs.Levels.{sequential_is_serializable}
-use Rattle.judge_levels.proofs.laws.sequentially_consistent_histories_are_serializable.Goals as goal
-
-pub returns : goal.returns
-returns g c = sequential_is_serializable (g.M.Object.rules)

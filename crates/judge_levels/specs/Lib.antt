@@ -1,4 +1,0 @@
-pub mod Levels
-pub mod Relaxed
-pub mod Laws
-pub mod Cut

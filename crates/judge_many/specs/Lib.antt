@@ -1,9 +1,0 @@
-pub mod Many
-pub mod Numbers
-pub mod Runs
-pub mod Starts
-pub mod Classes
-pub mod Naming
-pub mod Judging
-pub mod Turns
-pub mod Verdict

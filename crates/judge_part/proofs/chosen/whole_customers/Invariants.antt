@@ -1,8 +1,0 @@
-use Rattle.judge_part.specs.Largest.{MayBeWholeEach}
-use Rattle.judge_part.specs.Lines.{calls_of}
-use Rattle.judge_part.proofs.Larger.{WholeUpTo}
-use Rattle.judge_part.proofs.chosen.whole_customers.Given as goal
-
-abbrev pub invariant-customers : goal.invariant-customers
-invariant-customers l = WholeUpTo l.customers l.items (calls_of l.lines) l.at l.whole.items
-    × MayBeWholeEach l.customers l.items (calls_of l.lines) l.whole.items

@@ -1,5 +1,0 @@
-use Rattle.judge_part.proofs.Whole.{parts_linearizable}
-use Rattle.judge_part.proofs.laws.parts_of_linearizable_histories_are_linearizable.Goals as goal
-
-pub returns : goal.returns
-returns c = parts_linearizable

@@ -1,8 +1,0 @@
-use Rattle.std.proofs.Common.{◌≡◌, ◌++◌, take}
-use Rattle.vac_lines.specs.Lines.{texts}
-use Rattle.vac_lines.specs.TaskText.{spaced}
-use Rattle.judge_part.proofs.words.join_words.Given as goal
-
--- the words so far
-abbrev pub invariant-loop-word : goal.invariant-loop-word
-invariant-loop-word l = l.text.items ≡ l.first ++ spaced (texts (take l.word-index l.rest))

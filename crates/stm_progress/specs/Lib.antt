@@ -1,4 +1,0 @@
-pub mod Conflicts
-pub mod Causes
-pub mod Progress
-pub mod Examples
