@@ -3,7 +3,7 @@ use Rattle.std.proofs.Common.{◌≡◌, List, [], refl, codes, arith}
 use Rattle.clap.specs.Words.{fault_of}
 use Rattle.clap.specs.Simple.{Shape, filled}
 use Rattle.clap.specs.Walk.{Row, Text}
-use Rattle.cli_main.specs.declared.asked.TheConstants.{MOST_WORDS}
+use Rattle.judge_opacity.specs.declared.memory.TheConstants.{MOST_WORDS}
 use Rattle.cli_main.specs.CommandLine.{vacation, words_option, flag, HasOpacity, Names}
 use Rattle.cli_main.proofs.Walks.{AllFit}
 use Rattle.cli_main.proofs.Given.{IsEntered}

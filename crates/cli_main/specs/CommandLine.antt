@@ -31,7 +31,8 @@ use Rattle.stm_core.specs.declared.version.TheConstants.{VERSION_LIMIT}
 use Rattle.judge_object.specs.declared.level.Level.{Level}
 use Rattle.judge_object.specs.declared.level.Level.TheVariants.{Linearizable, Sequential}
 use Rattle.judge_object.specs.declared.level.Level.TheVariants.{Serializable}
-use Rattle.cli_main.specs.declared.asked.TheConstants.{MOST_NUMBER, MOST_WORDS, DRAWN_TRIES}
+use Rattle.judge_opacity.specs.declared.memory.TheConstants.{MOST_WORDS}
+use Rattle.cli_main.specs.declared.asked.TheConstants.{MOST_NUMBER, DRAWN_TRIES}
 use Rattle.cli_main.specs.declared.asked.LoadOutput.{LoadOutput}
 use Rattle.cli_main.specs.declared.asked.Request.{Request}
 use Rattle.cli_main.specs.declared.asked.Request.TheVariants.{Run, Dump, Check, Judge, Order}

@@ -5,6 +5,7 @@ ghost use Rattle.std.specs.Prelude.{string_bytes, codes, IfOk, IfSome, IsSome};
 ghost use Rattle.clap.specs.Words.{FailsBy, Row, Text, fault_of, found_of, rows_of};
 ghost use Rattle.clap.specs.Words.{subcommand_of, subcommand_rows_of};
 ghost use Rattle.vac_model.specs.declared.limits.TheConstants.{MOST_BLOCKS};
+ghost use Rattle.judge_opacity.specs.declared.memory.TheConstants.{MOST_WORDS};
 ghost use Rattle.vac_model.specs.Ranges.{is_block_count};
 ghost use Rattle.cli_main.specs.CommandLine.{vacation, Gives, GivesIn, HasDrawing, AreDrawn};
 ghost use Rattle.cli_main.specs.CommandLine.{HasLoad, AreGiven, is_given, is_of_words};
@@ -45,9 +46,6 @@ pub struct LoadOutput {
     /// standard error.
     pub attempts: bool,
 }
-
-/// Largest number of words of a memory whose attempts are judged.
-pub const MOST_WORDS: u32 = 4_194_304;
 
 /// The settings of a search for an order of a level, and of the report on the log.
 #[derive(Clone, Copy)]

@@ -14,9 +14,9 @@ ghost use Rattle.cli_main.specs.CommandLine.{top_command, script_commands, judgi
 ghost use Rattle.cli_main.specs.CommandLine.{load_commands, vacation, IsOption, IsCommand};
 ghost use Rattle.cli_main.specs.CommandLine.{GetsOptions, GetsCommands};
 
-use crate::asked::MOST_WORDS;
 use clap::builder::ValueParser;
 use clap::{Arg, ArgAction, Command, value_parser};
+use judge_opacity::MOST_WORDS;
 use load_tasks::{MOST_CLIENTS, MOST_ITEMS, MOST_ROUNDS, MOST_TASKS, PERCENT};
 use std::alloc::{AllocError, Global};
 use vac_model::limits::{MOST_BLOCKS, MOST_PARTS, MOST_TRIES};

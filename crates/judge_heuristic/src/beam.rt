@@ -18,7 +18,7 @@ use std::collections::BTreeMap;
 use vac_model::Reply;
 
 /// Largest number of times that the search turns back before it places more calls than ever.
-const MOST_TRIES: u64 = 5;
+const MOST_RESTARTS: u64 = 5;
 
 /// Number of completed calls between two checkpoints.
 const STRIDE: u64 = 32;
@@ -266,7 +266,7 @@ impl<M: Object<Op = ValidTask, Reply = Reply> + Drop> Beam<M> {
         self.plan = plan_of(self.tries);
         self.drop_checkpoints();
         let count = self.checkpoints.len();
-        if MOST_TRIES < self.tries || count == 0 {
+        if MOST_RESTARTS < self.tries || count == 0 {
             return Ok(false);
         }
         let last = &self.checkpoints[count - 1];

@@ -10,7 +10,7 @@ const MOST_CHOICE_POINTS: usize = 256;
 
 /// Largest number of choice points that are tried among those close to the blocked call, and again
 /// among those farther off.
-const MOST_TRIES: usize = 16;
+const MOST_TRIED_POINTS: usize = 16;
 
 /// The two calls of a choice point: the call that was taken and the other call.
 #[derive(Clone, Copy)]
@@ -216,7 +216,7 @@ impl ChoicePoints {
         met: &[usize],
         but: Option<usize>,
     ) -> Result<(), AllocError> {
-        let most = self.tries.len().saturating_add(MOST_TRIES);
+        let most = self.tries.len().saturating_add(MOST_TRIED_POINTS);
         let count = self.kept.len();
         for back in 0..count {
             let Some(found) = self.get(trail, count - 1 - back) else {

@@ -1,6 +1,6 @@
 use Rattle.std.proofs.Common.{arith, subst, ◌≤◌, ℕ}
 use Rattle.cli_main.proofs.Getters.{one_number}
-use Rattle.cli_main.specs.declared.asked.TheConstants.{MOST_WORDS}
+use Rattle.judge_opacity.specs.declared.memory.TheConstants.{MOST_WORDS}
 use Rattle.cli_main.proofs.asked.words_of.Goals as goal
 
 pub number_of-requires : goal.number_of-requires
