@@ -1,5 +1,5 @@
-//! The program: runs the command that its command line asks for, over the streams that the caller
-//! gives.
+//! The program: reads its command line, and runs the command that it asks for, over the streams
+//! that the caller gives.
 //!
 //! Scripts over streams, and the line-by-line readers and writers, are re-exported from the crates
 //! below.

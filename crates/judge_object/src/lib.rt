@@ -1,6 +1,10 @@
 //! Sequential objects, histories of their calls, and linearizability of these histories (Herlihy
 //! and Wing, TOPLAS 1990), over intervals of time: those of each client are in turn, none ends
 //! before it begins, and none comes after one that began only after it had ended.
+//!
+//! Histories with less order or less time: levels of consistency between linearizability and
+//! serializability, which keep less of the order of the calls; and cuts, which are the history as
+//! it stood at a moment.
 #![tactic(auto)]
 
 mod cutting;

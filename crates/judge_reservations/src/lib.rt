@@ -1,4 +1,5 @@
-//! The reservation system as a sequential object.
+//! The reservation system as a sequential object, and the part of a history of its calls on some
+//! customers and items: if the history is linearizable, so is the part.
 #![tactic(auto)]
 
 mod answers;

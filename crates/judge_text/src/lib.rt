@@ -1,5 +1,8 @@
 //! Histories of many objects as text, `CLIENT BEGIN END OPERATION -> REPLY` for each call, and
 //! their verdicts.
+//!
+//! Each object of a history has a name. The history is linearizable exactly if each object's is,
+//! unless a client begins a call at the very time at which its last one ended.
 #![tactic(auto)]
 
 mod by_object;

@@ -5,6 +5,12 @@
 //! relation between a list of events and its records. Contracts here and in the crates above cite
 //! these definitions. The core as running code, which plays such a list, is the crate
 //! `stm_replay`.
+//!
+//! Besides, the crate has versions, lock words, tags and laws of records, which a transactional
+//! memory adds to the data words of `tx_memory` (the encoding of a lock word is this product's
+//! own); and progressiveness of the core (Guerraoui, Kapałka, POPL 2009), up to stripes and the
+//! bound on ticks: every conflict that aborts an attempt is caused by another client, between the
+//! attempt's begin and the step that shows the conflict.
 #![tactic(auto)]
 
 mod causation;
