@@ -16,7 +16,8 @@ use Rattle.vac_model.proofs.Balance.{item_here, item_elsewhere}
 use Rattle.judge_reservations.specs.declared.scope.Scope.{Scope}
 use Rattle.judge_reservations.specs.Scopes.{has_customer, has_item, is_closed, is_whole}
 use Rattle.judge_reservations.specs.Parts.{offer_of, is_customer, booking_of, IsPart, IsConfined}
-use Rattle.judge_reservations.proofs.Restricted.{Restricts, Sets, set_both, set_out, same_left, same_right, both_default}
+use Rattle.judge_reservations.proofs.Restricted.{Restricts, Sets, set_both, set_out, same_left, same_right}
+use Rattle.judge_reservations.proofs.Restricted.{both_default}
 
 -- a state with its part
 pub record Near (scope : Scope) (s p : State) : Type 0 where

@@ -20,7 +20,8 @@ use Rattle.vac_model.proofs.Ids.{both_true}
 use Rattle.vac_model.proofs.Kept.{eq_true}
 use Rattle.judge_object.specs.Call.{Call}
 use Rattle.judge_reservations.specs.declared.scope.Scope.{Scope}
-use Rattle.judge_reservations.specs.Scopes.{is_among, is_place_among, has_customer, has_item, is_closed, is_whole, allows}
+use Rattle.judge_reservations.specs.Scopes.{is_among, is_place_among, has_customer, has_item, is_closed, is_whole}
+use Rattle.judge_reservations.specs.Scopes.{allows}
 use Rattle.judge_reservations.specs.Tasks.{is_reply, command_changes, command_allowed, are_outside}
 use Rattle.judge_reservations.specs.Trips.{Shown, TripWords, shown_pick, trip_words, pick_fits, picks_fit}
 use Rattle.judge_reservations.specs.Completed.{answer_fits}

@@ -30,7 +30,8 @@ use Rattle.vac_lines.specs.Text.{reply_text}
 use Rattle.judge_reservations.specs.declared.scope.Scope.{Scope}
 use Rattle.judge_reservations.specs.Scopes.{has_customer, has_item, is_closed, is_whole, allows}
 use Rattle.judge_reservations.specs.Parts.{HasPart}
-use Rattle.judge_reservations.specs.Tasks.{Answered, is_reply, command_part, command_changes, command_allowed, leave_part}
+use Rattle.judge_reservations.specs.Tasks.{Answered, is_reply, command_part, command_changes, command_allowed}
+use Rattle.judge_reservations.specs.Tasks.{leave_part}
 use Rattle.judge_reservations.specs.Tasks.{are_outside}
 use Rattle.judge_reservations.specs.Pending.{pending_part, pending_fits}
 use Rattle.judge_reservations.proofs.Effects.{Near}

@@ -25,7 +25,8 @@ use Rattle.judge_reservations.specs.Scopes.{has_customer, has_item, is_closed}
 use Rattle.vac_model.specs.declared.replies.Reply.TheVariants as reply
 use Rattle.vac_lines.specs.Text.{reply_text}
 use Rattle.judge_reservations.specs.Tasks.{Answered, command_changes, customer_exists}
-use Rattle.judge_reservations.specs.Updates.{Changed, is_why, change_part, changes_part, commands_of, shown_update, update_part}
+use Rattle.judge_reservations.specs.Updates.{Changed, is_why, change_part, changes_part, commands_of, shown_update}
+use Rattle.judge_reservations.specs.Updates.{update_part}
 use Rattle.judge_reservations.specs.Trips.{TripWords, trip_words, is_kept, word_for, has_kept_pick, kept_asks, joins}
 use Rattle.judge_reservations.specs.Trips.{picked_part}
 use Rattle.judge_reservations.specs.Trips.{kept_text, joined_part, shown_trip, trip_part}

@@ -32,11 +32,14 @@ use Rattle.vac_lines.specs.Text.{reply_text, done_text}
 use Rattle.judge_reservations.specs.declared.scope.Scope.{Scope}
 use Rattle.judge_reservations.specs.Scopes.{has_customer, has_item, is_closed, allows}
 use Rattle.judge_reservations.specs.Parts.{HasPart, offer_of}
-use Rattle.judge_reservations.specs.Tasks.{Answered, is_reply, kept, customer_exists, customer_seen, item_seen, command_part}
+use Rattle.judge_reservations.specs.Tasks.{Answered, is_reply, kept, customer_exists, customer_seen, item_seen}
+use Rattle.judge_reservations.specs.Tasks.{command_part}
 use Rattle.judge_reservations.specs.Updates.{is_why}
-use Rattle.judge_reservations.specs.Trips.{Shown, TripWords, shown_pick, keeps_pick, has_kept, is_kept, no_pick, kept_word}
+use Rattle.judge_reservations.specs.Trips.{Shown, TripWords, shown_pick, keeps_pick, has_kept, is_kept, no_pick}
+use Rattle.judge_reservations.specs.Trips.{kept_word}
 use Rattle.judge_reservations.specs.Trips.{word_for}
-use Rattle.judge_reservations.specs.Trips.{trip_words, has_kept_pick, kept_asks, kept_text, joins, joined_part, picked_part}
+use Rattle.judge_reservations.specs.Trips.{trip_words, has_kept_pick, kept_asks, kept_text, joins, joined_part}
+use Rattle.judge_reservations.specs.Trips.{picked_part}
 use Rattle.judge_reservations.specs.Trips.{shown_trip, trip_part, pick_fits, picks_fit, trip_fits}
 use Rattle.judge_reservations.proofs.Numbers.{none_of}
 use Rattle.judge_reservations.proofs.Effects.{Near}
@@ -44,7 +47,8 @@ use Rattle.judge_reservations.proofs.Outside.{reserve_cases}
 use Rattle.judge_reservations.proofs.Commands.{Made, near, answered, command_made, reserve_unseen}
 use Rattle.judge_reservations.proofs.Tasks.{Passes, choice_passes}
 use Rattle.judge_reservations.proofs.Ranges.{InRange, next_out, next_both, not_true}
-use Rattle.judge_reservations.proofs.Replies.{IsShort, word_of, same_word, tests, prefix, pick_word, joined_word, no_pick_word}
+use Rattle.judge_reservations.proofs.Replies.{IsShort, word_of, same_word, tests, prefix, pick_word, joined_word}
+use Rattle.judge_reservations.proofs.Replies.{no_pick_word}
 use Rattle.judge_reservations.proofs.Replies.{words_joined, trip_reads, HasId, reply_words, none_seen, pick_seen}
 use Rattle.judge_reservations.proofs.Choices.{priced, left_out, kept_choice}
 

@@ -1,6 +1,6 @@
 //! The reservation system as a sequential object.
 
-ghost use Rattle.std.specs.Prelude.{◌≡◌, ◌≤◌, true, IfOk};
+ghost use Rattle.std.specs.Prelude.{◌≡◌, ◌≤◌, ◌↔◌, true, IfOk};
 ghost use Rattle.vac_model.specs.State.{empty_state};
 ghost use Rattle.judge_reservations.specs.Reserving.{reserving};
 
@@ -38,6 +38,13 @@ impl Reservations {
             manager: Sequential::new(alloc, blocks)?,
         })
     }
+
+    /// Returns whether both states are equal.
+    pub fn equals(&self, other: &Reservations) -> bool
+        ensures { (result ≡ true) ↔ (self.now ≡ other.now) }
+    {
+        self.manager.is_same(&other.manager)
+    }
 }
 
 impl Object for Reservations {
@@ -62,7 +69,7 @@ impl Object for Reservations {
     }
 
     fn is_same(&self, other: &Reservations) -> bool {
-        self.manager.is_same(&other.manager)
+        self.equals(other)
     }
 
     fn hash(&self) -> u64 {
