@@ -17,7 +17,8 @@ use crate::telling::run_with_progress;
 use load_record::{
     AttemptRecorder, CallRecorder, ElapsedClock, StampClock, write_attempts, write_history,
 };
-use load_run::{LoadFault, Recorders, Settings};
+use load_run::{LoadFault, Recorders};
+use load_tasks::Settings;
 use std::alloc::{AllocError, Global};
 use std::io::Write;
 use std::sync::Wait;

@@ -6,8 +6,8 @@ ghost use Rattle.cli_main.specs.Ending.{fault_line, unopened_line, long_attempt_
 ghost use Rattle.cli_main.specs.Ending.{load_fault_line};
 ghost use Rattle.cli_main.specs.Ending.{EndsDone, EndsJudged};
 
-use load_run::{LoadFault, Settings};
-use load_tasks::BLOCKS_OF_ITEM;
+use load_run::LoadFault;
+use load_tasks::{BLOCKS_OF_ITEM, Settings};
 use std::alloc::Global;
 use std::io::Write;
 use vac_lines::{StreamFault, write_and_flush};

@@ -5,7 +5,8 @@ ghost use Rattle.cli_main.specs.Load.{HasRun, RunsKept};
 
 use crate::asked::LoadOutput;
 use crate::stats::LoadTimer;
-use load_run::{AttemptStatistics, Load, LoadFault, LoadReport, PcgDraws, Recorders, Settings};
+use load_run::{AttemptStatistics, Load, LoadFault, LoadReport, Recorders};
+use load_tasks::{PcgDraws, Settings};
 use std::alloc::Global;
 use std::io::Write;
 use std::sync::Wait;

@@ -22,10 +22,6 @@ mod workers;
 
 pub use counts::TaskCounts;
 pub use load::{Load, LoadFault, LoadReport};
-pub use load_tasks::{
-    Draws, FixedDraws, MOST_CLIENTS, MOST_ITEMS, MOST_ROUNDS, MOST_TASKS, PERCENT, PcgDraws,
-    Settings, Tasks, tasks_of, turns_make_tasks,
-};
 pub use looping::count_loop;
 pub use opening::open_kept;
 pub use outcomes::Outcomes;

@@ -1,4 +1,4 @@
--- An iterator over tasks that was taken to its end.
+-- Tasks that are drawn one after the other.
 use Rattle.std.proofs.Common.{◌≡◌, subst, arith, ℕ, ◌+◌, List, [], ◌∷◌, ◌++◌, Result, append_assoc, append-nil}
 use Rattle.vac_model.specs.declared.tasks.Task.{Task}
 use Rattle.load_tasks.specs.declared.settings.Settings.{Settings}

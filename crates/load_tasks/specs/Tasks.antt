@@ -1,6 +1,6 @@
 -- The tasks of a load and the commands of its setup phase, as they are read from drawn words.
 use Rattle.std.specs.Prelude.{◌≡◌, ℕ, zero, suc, ◌+◌, ◌*◌, ◌%◌, ◌==◌, nat_lt, if◌then◌else◌}
-use Rattle.std.specs.Prelude.{List, [], ◌∷◌, ◌++◌, Option, Some, None, Result, IfOk}
+use Rattle.std.specs.Prelude.{List, [], ◌∷◌, ◌++◌, Some, Result, IfOk}
 use Rattle.std.specs.declared.alloc.AllocError.{AllocError}
 use Rattle.vac_model.specs.declared.items.Kind.{Kind}
 use Rattle.vac_model.specs.declared.items.Kind.TheVariants.{Car, Flight, Room}
@@ -103,10 +103,6 @@ mixed_at s r = if nat_lt r s.reads then question s else work s
 abbrev pub task_of : Settings → Reader Task
 task_of s = if s.reads == 0 then work s else followed_by (below PERCENT) (λ r. mixed_at s r)
 
--- reads the tasks of a client
-abbrev pub tasks : Settings → Reader (List Task)
-tasks s = times_over s.tasks (task_of s)
-
 -- exactly the words of one task were drawn, and the built task is that task. If building was
 -- refused, the same words were drawn
 pub record DrawnTask {D E : Type 0} (leads : D → ℕ → D → Type 0) (reader : Reader Task)
@@ -115,21 +111,14 @@ pub record DrawnTask {D E : Type 0} (leads : D → ℕ → D → Type 0) (reader
   pub drawn : Drawn leads reader state task last
   pub built : IfOk result (λ t. t ≡ task)
 
--- one step of an iterator over tasks: if tasks are left, one is drawn; at the end no word is drawn
-abbrev pub IsTurn : {D E : Type 0} → (D → ℕ → D → Type 0) → Settings
-    → ℕ → D → Option (Result Task E) → ℕ → D → Type 0
-IsTurn leads s left state None left' last = (left ≡ 0) × (left' ≡ 0) × (last ≡ state)
-IsTurn leads s left state (Some result) left' last =
-    (left ≡ left' + 1) × DrawnTask leads (task_of s) state result last
-
--- the steps of an iterator over tasks, one after the other, with these items, until no task is
--- left
+-- tasks are drawn one after the other, n in all, each with this result; no other word is drawn
 abbrev pub Turns : {D E : Type 0} → (D → ℕ → D → Type 0) → Settings
     → ℕ → D → List (Result Task E) → D → Type 0
-Turns leads s left state [] last = (left ≡ 0) × (last ≡ state)
-Turns {D} leads s left state (item ∷ items) last =
-    (left' : ℕ) × (next : D) × IsTurn leads s left state (Some item) left' next
-    × Turns leads s left' next items last
+Turns leads s n state [] last = (n ≡ 0) × (last ≡ state)
+Turns {D} leads s n state (item ∷ items) last =
+    (left : ℕ) × (next : D)
+    × ((n ≡ left + 1) × DrawnTask leads (task_of s) state item next)
+    × Turns leads s left next items last
 
 -- each item that was built is the task at its position
 abbrev pub AreBuilt : {E : Type 0} → List (Result Task E) → List Task → Type 0
@@ -145,7 +134,7 @@ pub record AreTasksOf {D E : Type 0} (leads : D → ℕ → D → Type 0) (s : S
   pub drawn : Drawn leads (times_over n (task_of s)) state tasks last
   pub built : AreBuilt items tasks
 
--- an iterator over tasks that is run to its end gives the tasks of the words that it draws
+-- tasks that are drawn one after the other are the tasks of the words that are drawn
 abbrev pub TurnsMakeTasks : {D : Type 0} → (D → ℕ → D → Type 0) → Type 0
 TurnsMakeTasks {D} leads =
     (s : Settings) (n : ℕ) (a b : D) (items : List (Result Task AllocError))

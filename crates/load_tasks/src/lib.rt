@@ -25,5 +25,5 @@ pub use opening_lines::OPENING;
 pub use settings::{
     BLOCKS_OF_ITEM, MOST_CLIENTS, MOST_ITEMS, MOST_ROUNDS, MOST_TASKS, PERCENT, Settings,
 };
-pub use tasks::{Tasks, draw_task, tasks_of, turns_make_tasks};
+pub use tasks::{draw_task, turns_make_tasks};
 pub use worklist::write_tasks;

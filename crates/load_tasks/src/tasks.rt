@@ -10,8 +10,7 @@ ghost use Rattle.load_tasks.specs.Tasks.{up_to, kind, price, ask, drawn_trip, dr
 ghost use Rattle.load_tasks.specs.Tasks.{change_of, change, update_of, drawn_update, work};
 ghost use Rattle.load_tasks.specs.Tasks.{task_of, DrawnTask};
 ghost use Rattle.load_tasks.specs.Tasks.{question_at, question};
-ghost use Rattle.load_tasks.specs.Tasks.{IsTurn, TurnsMakeTasks};
-ghost use Rattle.std.specs.Iterator.{at_most};
+ghost use Rattle.load_tasks.specs.Tasks.{TurnsMakeTasks};
 
 use crate::draws::Draws;
 use crate::settings::{LEVELS, LOWEST_PRICE, PERCENT, PRICE_STEP, Settings, UNITS};
@@ -290,55 +289,9 @@ pub fn draw_task<D: Draws>(
     }
 }
 
-/// An iterator over the tasks of a client, as many as the settings say, each built from the words
-/// that are drawn for it. If memory to build a task is refused, its words are drawn all the same,
-/// so that the tasks after it stay the same.
-#[derive(Drop)]
-pub struct Tasks<'a, D> {
-    alloc: Global,
-    draws: &'a mut D,
-    settings: Settings,
-    left: u32,
-}
-
-/// Returns an iterator over the tasks of these draws, with settings in their ranges.
-pub fn tasks_of<'a, D: Draws>(alloc: Global, draws: &'a mut D, settings: &Settings) -> Tasks<'a, D>
-    requires { is_settings settings.now ≡ true }
-    ensures same { result.draws ≡ draws.entry }
-    ensures settings { result.settings ≡ settings.now }
-    ensures all { result.left ≡ settings.now.tasks }
-{
-    Tasks {
-        alloc,
-        draws,
-        settings: *settings,
-        left: settings.tasks,
-    }
-}
-
-impl<'a, D: Draws> Iterator for Tasks<'a, D> {
-    type Item = Result<Task, AllocError>;
-
-    ghost can_next = { λ it. is_settings it.settings ≡ true };
-
-    ghost next_gives = { λ before item after. (after.settings ≡ before.settings)
-        × (after.draws.ghost_name ≡ before.draws.ghost_name)
-        × IsTurn D.leads before.settings
-        before.left before.draws.now item after.left after.draws.now };
-
-    ghost remaining = { λ it. at_most it.left };
-
-    fn next(&mut self) -> Option<Result<Task, AllocError>> {
-        if self.left == 0 {
-            return None;
-        }
-        self.left -= 1;
-        Some(draw_task(self.alloc, self.draws, &self.settings))
-    }
-}
-
-/// States that an iterator over tasks that is run to its end gives the tasks of the words that it
-/// draws, as far as they are built.
+/// States that n calls of [`draw_task`], one after the other, draw exactly the words of n tasks and
+/// give those tasks, as far as they are built. If memory to build a task is refused, its words are
+/// drawn all the same, so that the tasks after it stay the same.
 pub fn turns_make_tasks<D: Draws>()
     ensures { TurnsMakeTasks D.leads }
 {}

@@ -3,7 +3,8 @@
 use crate::same::same;
 use crate::small_load::SETTINGS;
 use load_record::{AttemptRecorder, StampClock, write_attempts};
-use load_run::{Load, Recorders, Settings};
+use load_run::{Load, Recorders};
+use load_tasks::Settings;
 use std::process::Abort;
 use std::sync::Wait;
 use std::thread::Threads;

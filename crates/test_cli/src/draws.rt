@@ -2,7 +2,7 @@
 
 use crate::same::{holds, same};
 use crate::small_load::SETTINGS;
-use load_tasks::{Draws, FixedDraws, PcgDraws, tasks_of};
+use load_tasks::{Draws, FixedDraws, PcgDraws, draw_task};
 use vac_model::{Kind, Task};
 
 /// The first word that PCG's reference code gives for the seed 42 in the stream 54.
@@ -16,17 +16,14 @@ fn draws(rt: HostRuntime) {
 
 #[test]
 fn tasks_of_one_word(rt: HostRuntime) {
-    let mut trips: usize = 0;
     let mut draws = FixedDraws(0);
-    for task in tasks_of(rt.alloc(), &mut draws, &SETTINGS) {
-        let is_expected = match &task {
+    for _ in 0..3 {
+        let is_expected = match draw_task(rt.alloc(), &mut draws, &SETTINGS) {
             Ok(Task::Trip { customer, asks }) => {
-                *customer == 1 && asks.as_slice() == [(Kind::Car, 1)].as_slice()
+                customer == 1 && asks.as_slice() == [(Kind::Car, 1)].as_slice()
             }
             _ => false,
         };
         holds(&rt, is_expected);
-        trips = trips.saturating_add(1);
     }
-    same(&rt, &trips, &3);
 }

@@ -3,7 +3,7 @@
 use crate::loading::gated_load;
 use crate::same::same;
 use crate::small_load::SETTINGS;
-use load_run::{FixedDraws, Settings};
+use load_tasks::{FixedDraws, Settings};
 use std::sync::atomic::{AtomicU32, Ordering};
 use std::test::Fail;
 use stm_attempt::{Gate, Point};

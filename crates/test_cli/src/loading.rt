@@ -3,9 +3,8 @@
 ghost use Rattle.std.specs.Prelude.{◌≡◌, true, IfOk};
 ghost use Rattle.load_tasks.specs.Setting.{is_settings};
 
-use load_run::{
-    Draws, FixedDraws, Load, LoadFault, LoadReport, Settings, Slot, no_recorders, open_kept,
-};
+use load_run::{Load, LoadFault, LoadReport, Slot, no_recorders, open_kept};
+use load_tasks::{Draws, FixedDraws, Settings};
 use std::alloc::Global;
 use std::process::Abort;
 use std::sync::Wait;

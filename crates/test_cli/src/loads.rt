@@ -3,7 +3,8 @@
 use crate::loading::{load_of_seed, load_of_zeros, load_with, seeded_load};
 use crate::same::same;
 use crate::small_load::{SETTINGS, THREE_TRIPS, all_answered, spent_at};
-use load_run::{FixedDraws, LoadFault, LoadReport, MOST_ROUNDS, Settings};
+use load_run::{LoadFault, LoadReport};
+use load_tasks::{FixedDraws, MOST_ROUNDS, Settings};
 use stm_attempt::NoGate;
 use vac_model::Report;
 

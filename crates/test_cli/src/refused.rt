@@ -6,7 +6,8 @@
 use crate::loading::load_of_zeros;
 use crate::same::same;
 use crate::small_load::{SETTINGS, SIX_TRIPS, all_answered};
-use load_run::{LoadFault, LoadReport, Outcomes, Settings};
+use load_run::{LoadFault, LoadReport, Outcomes};
+use load_tasks::Settings;
 use std::process::Abort;
 use vac_manager::Fault;
 

@@ -1,6 +1,7 @@
 //! The settings of a small load, and its reports if each task is a trip to the first car.
 
-use load_run::{Outcomes, Settings};
+use load_run::Outcomes;
+use load_tasks::Settings;
 use vac_manager::Fault;
 use vac_model::Report;
 
