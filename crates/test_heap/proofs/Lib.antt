@@ -1,1 +1,2 @@
 mod Stocked
+mod Walked

@@ -5,9 +5,7 @@ ghost use Rattle.tx_alloc.specs.Pool.{HasPool};
 
 use std::alloc::{AllocError, Global};
 use std::test::Fail;
-use tx_alloc::{
-    Block, FreeList, fresh_words, give, rows_are_a_map, spread_words, take, take_refilling,
-};
+use tx_alloc::{Block, FreeList, give, rows_are_a_map, spread_words, take, take_refilling};
 use tx_memory::{Addr, Flat, TxMem};
 
 /// Returns the words that are not 0, with their indices.
@@ -18,32 +16,6 @@ fn filled(alloc: Global, words: &[u64]) -> Result<Vec<(usize, u64)>, AllocError>
         .enumerate()
         .filter(|(_, word)| *word != 0)
         .collect(alloc)
-}
-
-#[test]
-fn words_of_heaps_without_entries(rt: HostRuntime) -> Result<(), Fail> {
-    rows_are_a_map();
-    let one = fresh_words(rt.alloc(), 1)?;
-    let ten = fresh_words(rt.alloc(), 10)?;
-    let lengths = [one.len(), ten.len()];
-    let filled_of_one = filled(rt.alloc(), &one)?;
-    let filled_of_ten = filled(rt.alloc(), &ten)?;
-    let expected_of_ten = [
-        (8, 16),
-        (9, 24),
-        (10, 32),
-        (11, 40),
-        (12, 48),
-        (13, 56),
-        (14, 64),
-        (15, 72),
-        (16, 80),
-        (24, 88),
-    ];
-    assert_eq!(rt; lengths, [24, 96]);
-    assert_eq!(rt; filled_of_one.as_slice(), [(8, 16)].as_slice());
-    assert_eq!(rt; filled_of_ten.as_slice(), expected_of_ten.as_slice());
-    Ok(())
 }
 
 /// Takes three blocks, searching from these lists on.
@@ -83,9 +55,11 @@ fn take_and_give<M: TxMem>(
     }
 }
 
+/// The first two lists have two blocks each, the others one. List 1 keeps its second block, and
+/// the block of list 5 goes to list 7.
 #[test]
 fn blocks_come_from_the_first_list_that_has_one(rt: HostRuntime) -> Result<(), Fail> {
-    let words = fresh_words(rt.alloc(), 10)?;
+    let words = spread_words(rt.alloc(), 10)?;
     let mut flat = Flat::new(words);
     let Ok(taken) = take_three(
         &mut flat,
@@ -97,29 +71,29 @@ fn blocks_come_from_the_first_list_that_has_one(rt: HostRuntime) -> Result<(), F
     let words = flat.words();
     let filled_after = filled(rt.alloc(), &words)?;
     let blocks = [
-        Some(Block(Addr(24))),
-        Some(Block(Addr(40))),
-        Some(Block(Addr(48))),
+        Some(Block(Addr(32))),
+        Some(Block(Addr(56))),
+        Some(Block(Addr(64))),
     ];
     let expected = [
         (8, 16),
-        (9, 88),
-        (10, 32),
-        (14, 64),
-        (15, 56),
-        (16, 80),
-        (24, 88),
-        (56, 72),
+        (9, 40),
+        (10, 48),
+        (14, 80),
+        (15, 72),
+        (16, 24),
+        (32, 40),
+        (72, 88),
     ];
     assert_eq!(rt; taken, blocks);
-    assert_eq!(rt; given, Some(Block(Addr(56))));
+    assert_eq!(rt; given, Some(Block(Addr(72))));
     assert_eq!(rt; filled_after.as_slice(), expected.as_slice());
     Ok(())
 }
 
 #[test]
 fn the_search_goes_round_and_ends(rt: HostRuntime) -> Result<(), Fail> {
-    let words = fresh_words(rt.alloc(), 2)?;
+    let words = spread_words(rt.alloc(), 2)?;
     let mut flat = Flat::new(words);
     let Ok(taken) = take_three(
         &mut flat,
@@ -183,6 +157,7 @@ const TEN: [(usize, u64); 10] = [
 
 #[test]
 fn words_of_heaps_in_pieces(rt: HostRuntime) -> Result<(), Fail> {
+    rows_are_a_map();
     let found = [
         has_pieces(rt.alloc(), 1, &EIGHT[..1])?,
         has_pieces(rt.alloc(), 7, &EIGHT[..7])?,

@@ -4,13 +4,13 @@ ghost use Rattle.test_heap.specs.Stock.{stock_words};
 
 use std::alloc::{AllocError, Global};
 use std::test::Fail;
-use tx_alloc::fresh_words;
+use tx_alloc::spread_words;
 use tx_memory::Flat;
 use vac_audit::{Report, report};
 
 #[test]
 fn no_entries(rt: HostRuntime) -> Result<(), Fail> {
-    let mut flat = Flat::new(fresh_words(rt.alloc(), 4)?);
+    let mut flat = Flat::new(spread_words(rt.alloc(), 4)?);
     let Ok(found) = report(&mut flat);
     let expected = Report {
         cars: 0,

@@ -10,7 +10,7 @@ use std::test::Fail;
 use tx_alloc::Block;
 use tx_alloc::place::MOST_BLOCKS;
 use tx_memory::{Addr, Flat, load};
-use tx_tree::{find, insert, least_above, remove};
+use tx_tree::{Walk, find, insert, remove};
 
 const ROOT: Addr = Addr(3);
 
@@ -101,23 +101,21 @@ fn cut(flat: &mut Flat, blocks: usize, count: usize, key: u64) -> (usize, Option
     }
 }
 
-/// Returns whether a walk by the next greater keys gives exactly the entries of the map.
+/// Returns whether a walk over the table gives exactly the blocks of the map's entries, by
+/// ascending keys, and a search for each key of the map gives its block.
 fn same_entries(flat: &mut Flat, blocks: usize, count: usize, map: &BTreeMap<u64, u32>) -> bool
     requires { HasEntries (flat_view flat.old) 3 blocks count }
     ensures { HasEntries (flat_view flat.new) 3 blocks count }
 {
-    let mut last = 0;
+    let Ok(mut walk) = Walk::begin(flat, ROOT);
     let mut same = true;
     for (key, block) in map.iter() {
-        let Ok(next) = least_above(flat, ROOT, last);
-        let as_in_map = match next {
-            Some(entry) => entry.key == *key && entry.block == Block(Addr(*block)),
-            None => false,
-        };
-        same = same && as_in_map;
-        last = *key;
+        let Ok(next) = walk.next(flat);
+        let Ok(found) = find(flat, ROOT, *key);
+        let expected = Some(Block(Addr(*block)));
+        same = same && next == expected && found == expected;
     }
-    let Ok(next) = least_above(flat, ROOT, last);
+    let Ok(next) = walk.next(flat);
     same && next.is_none()
 }
 
