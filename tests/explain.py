@@ -1,11 +1,12 @@
 #!/usr/bin/env python3
-"""Holds ./explain against the program. Its model answers random scripts as the program does. Its search agrees with
-the program on random small histories, legal and damaged, with pending and undetermined calls. The part of a legal
-history on any scope is legal, and so is the history up to any moment. The parts that the program writes are those of
-tests/parts.py, of the whole history and of its cut at the end of each call (`part --until`). Each anomaly of
-tests/anomalies gets its name, a text of at most 30 lines, and a smallest run that the program calls illegal; so does
-one with an undetermined call. Legal logs of loads show no contradiction; a damaged log gets the judge's fault; a large
-one is read in bounded memory. The argument is the program; with none it is the one that the last build left."""
+"""Holds ./explain against the program. Its model answers random scripts as the program does. Its search agrees with the
+program on random small histories, legal and damaged, with pending and undetermined calls. The part of a legal history
+on any scope is legal, and so is the history up to any moment. The parts that the program writes are those of
+tests/parts.py, of the whole history and of its cut at the end of each call (`part --until`). The part of a verdict
+`illegal part L SCOPE` is illegal as `part --until L` writes it. Each anomaly of tests/anomalies gets its name, a text
+of at most 30 lines, and a smallest run that the program calls illegal; so does one with an undetermined call. Legal
+logs of loads show no contradiction; a damaged log gets the judge's fault; a large one is read in bounded memory. The
+argument is the program; with none it is the one that the last build left."""
 
 import os
 import random
@@ -31,6 +32,8 @@ from explaining.search import first_wrong
 from explaining.tasks import BadLine, read_call, read_task
 
 SCRIPTS, HISTORIES, SEED = 12, 200, 11
+# Verdicts whose parts are written and judged, and the most histories that are drawn for them.
+PART_VERDICTS, MOST_DRAWN = 300, 3_000
 PATIENCE = 60
 MOST_LINES, MOST_WIDTH = 30, 100
 # The anomalies, with the name that each must get and the levels between which it stands.
@@ -225,6 +228,39 @@ def holds_written_cut(program, draw, lines, calls, told):
     return is_part
 
 
+def named_by(words):
+    """The customers and the items that the words of a scope name."""
+    pairs = list(zip(words[::2], words[1::2], strict=True))
+    return ({int(number) for name, number in pairs if name == "customer"},
+            {(name, int(number)) for name, number in pairs if name != "customer"})
+
+
+def holds_parts_of_verdicts(program):
+    """After a verdict `illegal part L SCOPE`, the part of the cut at the end of line L's call on SCOPE is illegal."""
+    found = finer = 0
+    for seed in range(MOST_DRAWN):
+        draw = random.Random(SEED + 5_000 + seed)
+        lines = damaged(draw, damaged(draw, drawn_history(draw, 14)))
+        verdict = program.judge(lines).split(" ")
+        if verdict[:2] != ["illegal", "part"]:
+            continue
+        customers, items = named_by(verdict[3:])
+        part = written_part(program, lines, customers, items, ["--until", verdict[2]])
+        want(part and is_illegal(program.judge(part)), f"seed {seed}: {verdict}, but the part {part} is not: {lines}")
+        found += 1
+        finer += part != part_as_judged(lines, int(verdict[2]), customers, items)
+        if found == PART_VERDICTS:
+            break
+    want(found == PART_VERDICTS and finer > 0, f"{found} verdicts on parts, and {finer} written parts say more")
+    return f"{found} parts of verdicts"
+
+
+def part_as_judged(lines, line, customers, items):
+    """The part of the cut on the scope of the whole history, which may have fewer closed items and whole customers."""
+    calls = [read_call(number, text) for number, text in enumerate(lines, 1)]
+    return part_until(calls, line, customers, items, calls)
+
+
 def holds_openings():
     """The tasks of an opening lead to the state."""
     for seed in range(60):
@@ -391,13 +427,15 @@ def main():
             holds_openings()
             counted = holds_parts(program)
             written = holds_written_parts(program)
+            of_verdicts = holds_parts_of_verdicts(program)
             holds_anomalies(program, Path(folder))
             holds_undetermined(program, Path(folder))
             holds_logs(program, Path(folder))
             holds_pages(program, Path(folder))
         except AssertionError as wrong:
             sys.exit(f"explain: {wrong}")
-    print(f"explain: {len(NAMES)} anomalies have their names; {counted} and {written} as they should be")
+    print(f"explain: {len(NAMES)} anomalies have their names; {counted}, {written} and {of_verdicts}"
+          " as they should be")
 
 
 if __name__ == "__main__":

@@ -86,6 +86,11 @@ def exists(customer):
     return Task("newcust", customer), "false exists"
 
 
+def keeps_bill(names, customer, reply):
+    """Returns whether a bill is kept: it may only hold bookings of the scope, or shows that there is no customer."""
+    return customer in names.whole or reply == "-1"
+
+
 def booking_part(names, task, reply):
     customer, item = task.customer in names.customers, task.item in names.items
     if customer and item:
@@ -114,8 +119,8 @@ def command_part(names, task, reply):
             return (task, reply) if task.item in names.closed else None
         case "price":
             return (task, reply) if task.item in names.items else None
-        case "bill":
-            return (task, reply) if task.customer in names.whole else None
+        case "bill" if task.customer in names.customers:
+            return (task, reply) if keeps_bill(names, task.customer, reply) else None
         case "reserve" | "cancel":
             return booking_part(names, task, reply)
     return None
@@ -157,7 +162,7 @@ def part_of_call(names, call):
         return None if task is None else replace(call, task=task)
     if task.name == "leave":
         found = None if task.customer not in names.customers else (
-            (task, reply) if task.customer in names.whole or reply == "-1" else (Task("dropcust", task.customer), "true"))
+            (task, reply) if keeps_bill(names, task.customer, reply) else (Task("dropcust", task.customer), "true"))
     elif task.name in ("trip", "update"):
         found = (trip_part if task.name == "trip" else update_part)(names, task, reply)
     else:
@@ -172,11 +177,11 @@ def cut_of(calls, moment):
             for number, call in enumerate(calls, 1) if min(call.begin, call.end) <= moment]
 
 
-def part_until(calls, line, customers, items):
-    """What `part --until` must write for these calls."""
+def part_until(calls, line, customers, items, judged=None):
+    """What `part --until` must write for these calls. With other calls, on the scope that has parts of those."""
     if not 1 <= line <= len(calls) or calls[line - 1].end == NEVER:
         return [f"fault no-end {line}"]
-    return part_of_numbered(cut_of(calls, calls[line - 1].end), customers, items)
+    return part_of_numbered(cut_of(calls, calls[line - 1].end), customers, items, judged)
 
 
 def part_of(calls, customers, items):
@@ -184,16 +189,18 @@ def part_of(calls, customers, items):
     return part_of_numbered(list(enumerate(calls, 1)), customers, items)
 
 
-def part_of_numbered(numbered, customers, items):
-    """The part of calls, each with the number of its line; or the fault of the first call that has no part."""
+def part_of_numbered(numbered, customers, items, judged=None):
+    """The part of calls, each with the number of its line; or the fault of the first call that has no part. The scope
+    has parts of these calls, or of the judged ones."""
     names, calls = Names(frozenset(customers), frozenset(items)), [call for _, call in numbered]
+    judged = calls if judged is None else judged
     for number, call in numbered:
         if not fits(names, call):
             return [f"fault no-part {number}"]
     names = replace(
         names,
         closed=frozenset(item for item in items
-                         if all(fits(replace(names, closed=frozenset({item})), call) for call in calls)),
+                         if all(fits(replace(names, closed=frozenset({item})), call) for call in judged)),
         whole=frozenset(customer for customer in customers
-                        if all(fits(replace(names, whole=frozenset({customer})), call) for call in calls)))
+                        if all(fits(replace(names, whole=frozenset({customer})), call) for call in judged)))
     return [part.line() for call in calls if (part := part_of_call(names, call)) is not None]

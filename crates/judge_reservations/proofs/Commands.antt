@@ -39,17 +39,15 @@ use Rattle.vac_model.proofs.Bounds.{bill_small}
 use Rattle.vac_lines.proofs.Decimals.{all_digits}
 use Rattle.vac_lines.specs.Text.{reply_text}
 use Rattle.judge_reservations.specs.declared.scope.Scope.{Scope}
-use Rattle.judge_reservations.specs.Scopes.{has_customer, has_item, is_place_among, is_among, is_closed, is_whole}
-use Rattle.judge_reservations.specs.Scopes.{allows}
+use Rattle.judge_reservations.specs.Scopes.{has_customer, has_item, is_place_among, is_closed, is_whole, allows}
 use Rattle.judge_reservations.specs.Parts.{HasPart}
-use Rattle.judge_reservations.specs.Tasks.{leave_part}
+use Rattle.judge_reservations.specs.Tasks.{leave_part, bill_part}
 use Rattle.judge_reservations.specs.Tasks.{Answered, is_reply, kept, customer_exists, customer_missing, item_exists}
 use Rattle.judge_reservations.specs.Tasks.{item_missing, customer_seen, item_seen, command_part}
 use Rattle.judge_reservations.specs.Tasks.{command_allowed}
 use Rattle.judge_reservations.proofs.Numbers.{part_not_full, item_in_part, item_missing_part, free_below, closed_same}
 use Rattle.judge_reservations.proofs.Numbers.{customer_in_part, customer_missing_part, booking_in_part, whole_same}
-use Rattle.judge_reservations.proofs.Effects.{Near, offer, near_item_both, near_gone_both, near_booked_both}
-use Rattle.judge_reservations.proofs.Effects.{near_new_both}
+use Rattle.judge_reservations.proofs.Effects.{Near, offer, near_item_both, near_gone_both, near_booked_both, near_new_both}
 use Rattle.judge_reservations.proofs.Effects.{near_left_both}
 use Rattle.judge_reservations.proofs.Outside.{departs, booked, reserve_cases, cancel_cases, add_out, delete_out}
 use Rattle.judge_reservations.proofs.Outside.{drop_flight_out}
@@ -640,28 +638,51 @@ module _ (scope : Scope) (s p : State) (h : HasPart scope s p) where
           answered (step s (command.Free kind id)) (task.One (command.Free kind id)) _
           (step p (command.Free kind id)) refl (ap (λ n. reply_text (reply.Number n)) same) near
 
-  bill_made : (c : ℕ) → is_whole scope c ≡ true →
-      Made (step s (command.Bill c)) (Some (task.One (command.Bill c), reply_text (step s (command.Bill c)).1))
-  bill_made c whole = go (bookings_of s c) refl
-    where
-      inside : has_customer scope c ≡ true
-      inside = (both_true (has_customer scope c) (is_among scope.whole.items c) whole).0
+  -- Bill
+  module _ (c : ℕ) where
+    abbrev the_bill : Task
+    the_bill = task.One (command.Bill c)
 
-      go : (o : Option Bookings) → bookings_of s c ≡ o →
-          Made (step s (command.Bill c)) (Some (task.One (command.Bill c), reply_text (step s (command.Bill c)).1))
-      go None e =
-          let missing = customer_missing_part scope s p h c e in
-          let same : option_map bill_of (bookings_of p c) ≡ option_map bill_of (bookings_of s c) =
-          ap (option_map bill_of) (missing ∙ sym e) in
-          answered (step s (command.Bill c)) (task.One (command.Bill c)) _ (step p (command.Bill c)) refl
-          (ap (λ n. reply_text (reply.Number n)) same) near
-      go (Some b) e =
-          let x = customer_in_part scope s p h c b inside e in
-          let equal = whole_same scope s p h c b x.0 whole e x.1 in
-          let same : option_map bill_of (bookings_of p c) ≡ option_map bill_of (bookings_of s c) =
-          ap (option_map bill_of) (x.1 ∙ ap Some equal ∙ sym e) in
-          answered (step s (command.Bill c)) (task.One (command.Bill c)) _ (step p (command.Bill c)) refl
-          (ap (λ n. reply_text (reply.Number n)) same) near
+    abbrev Billed : Outcome → Type 0
+    Billed o = Made o (
+        if is_whole scope c || is_reply (reply.Number None) (reply_text o.1)
+        then Some (the_bill, reply_text o.1)
+        else None
+        )
+
+    billed_missing : bookings_of s c ≡ None → Billed (number_answered s None)
+    billed_missing none = choose (number_answered s None) (is_whole scope c || true) _ _
+        (λ _.
+        let missing = customer_missing_part scope s p h c none in
+        let is : run p the_bill ≡ number_answered p None = rw missing refl in
+        answered (number_answered s None) the_bill _ (number_answered p None) is refl near)
+        (λ e. absurd (or_true (is_whole scope c) e))
+
+    billed_there : has_customer scope c ≡ true → (b : Bookings) → bookings_of s c ≡ Some b →
+        Billed (number_answered s (Some (bill_of b)))
+    billed_there inside b there =
+        let o : Outcome = number_answered s (Some (bill_of b)) in
+        let x = customer_in_part scope s p h c b inside there in
+        choose o (is_whole scope c || is_reply (reply.Number None) (reply_text o.1)) _ _
+        (λ e.
+        let whole = whole_of (is_whole scope c) (bill_of b)
+        (bill_small s c b (record { balanced = h.balanced; small = h.capacity }) there) e in
+        let same = whole_same scope s p h c b x.0 whole there x.1 in
+        let is : run p the_bill ≡ number_answered p (Some (bill_of x.0)) = rw x.1 refl in
+        answered o the_bill (reply_text o.1) (number_answered p (Some (bill_of x.0))) is
+        (ap (λ y. reply_text (reply.Number (Some (bill_of y)))) same) near)
+        (λ _. near)
+
+    bill_made : Made (step s (command.Bill c)) (bill_part scope c (reply_text (step s (command.Bill c)).1))
+    bill_made = choose (step s (command.Bill c)) (has_customer scope c) _ _ (λ inside. go inside (bookings_of s c) refl)
+        (λ _. near)
+      where
+        go : has_customer scope c ≡ true → (o : Option Bookings) → bookings_of s c ≡ o →
+            Billed (number_answered s (option_map bill_of (bookings_of s c)))
+        go inside None e =
+            subst (λ x. Billed (number_answered s (option_map bill_of x))) (sym e) (billed_missing e)
+        go inside (Some b) e =
+            subst (λ x. Billed (number_answered s (option_map bill_of x))) (sym e) (billed_there inside b e)
 
   -- the part of a completed command
   pub command_made : (c : Command) →
@@ -684,8 +705,7 @@ module _ (scope : Scope) (s p : State) (h : HasPart scope s p) where
       choose (step s (command.Free kind id)) (is_closed scope (kind, id)) _ _ (free_made kind id) (λ _. near)
   command_made (command.Price kind id) fair =
       choose (step s (command.Price kind id)) (has_item scope (kind, id)) _ _ (price_made kind id) (λ _. near)
-  command_made (command.Bill id) fair =
-      choose (step s (command.Bill id)) (is_whole scope id) _ _ (bill_made id) (λ _. near)
+  command_made (command.Bill id) fair = bill_made id
   command_made (command.Reserve c kind id num) fair =
       choose (reserve s c kind id num) (has_customer scope c) _ _
       (λ customer. choose (reserve s c kind id num) (has_item scope (kind, id)) _ _

@@ -1,10 +1,10 @@
 -- Calls that have parts on a scope have parts on each scope with fewer closed items and whole customers.
 use Rattle.std.proofs.Common.{◌≡◌, ℕ, ◌+◌, ◌<◌, ◌≤◌, ◌==◌, ◌&&◌, ◌||◌, not, Bool, true, false, cond, List, [], ◌∷◌}
 use Rattle.std.proofs.Common.{◌++◌, refl}
-use Rattle.std.proofs.Common.{ap, sym, subst, ◌∙◌, length, take, get_or, map, arith, codes}
+use Rattle.std.proofs.Common.{ap, sym, subst, ◌∙◌, length, take, get_or, codes}
 use Rattle.std.specs.Prelude.{Option, Some, None, nat_le, count_by}
 use Rattle.std.specs.Option.{option_map_or}
-use Rattle.std.specs.List.{list_all, list_any}
+use Rattle.std.specs.List.{list_all}
 use Rattle.std.specs.Str.{bytes_eq}
 use Rattle.std.proofs.lemmas.List.{take_more, take_all}
 use Rattle.std.proofs.lemmas.List.Folds.{list_any-append}
@@ -22,22 +22,15 @@ use Rattle.vac_model.proofs.Kept.{eq_true}
 use Rattle.judge_object.specs.Call.{Call}
 use Rattle.judge_reservations.specs.declared.scope.Scope.{Scope}
 use Rattle.judge_reservations.specs.Scopes.{is_among, is_place_among, has_customer, has_item, is_closed, is_whole}
-use Rattle.judge_reservations.specs.Scopes.{allows}
+use Rattle.judge_reservations.specs.Scopes.{allows, IsCoarser}
 use Rattle.judge_reservations.specs.Tasks.{is_reply, command_changes, command_allowed, are_outside}
-use Rattle.judge_reservations.specs.Trips.{Shown, TripWords, shown_pick, trip_words, pick_fits, picks_fit, trip_fits}
+use Rattle.judge_reservations.specs.Trips.{Shown, TripWords, shown_pick, trip_words, pick_fits, picks_fit}
 use Rattle.judge_reservations.specs.Completed.{answer_fits}
 use Rattle.judge_reservations.specs.Pending.{pending_fits}
 use Rattle.judge_reservations.specs.Histories.{reply_fits, fits, is_timed}
 use Rattle.judge_reservations.specs.Lines.{has_part}
 use Rattle.judge_reservations.specs.Largest.{IsScopeOf, HasAllClosed, HasAllWhole}
 use Rattle.judge_reservations.proofs.Tasks.{same_kind}
-
--- a scope of the same customers and items, with fewer closed items and whole customers
-pub record Under (one other : Scope) : Type 0 where
-  pub customers : one.customers.items ≡ other.customers.items
-  pub items : one.items.items ≡ other.items.items
-  pub closed : (q : Place) → is_closed one q ≡ true → is_closed other q ≡ true
-  pub whole : (c : ℕ) → is_whole one c ≡ true → is_whole other c ≡ true
 
 pub no : {X : Type 0} → false ≡ true → X
 no e = absurd (let never : false ≡ true = e in cc)
@@ -47,7 +40,7 @@ fewer_not true a b f e = refl
 fewer_not false true b f e = no (ap not (sym (f refl)) ∙ e)
 fewer_not false false b f e = refl
 
-or_more : (a x y : Bool) → (x ≡ true → y ≡ true) → (a || x) ≡ true → (a || y) ≡ true
+pub or_more : (a x y : Bool) → (x ≡ true → y ≡ true) → (a || x) ≡ true → (a || y) ≡ true
 or_more true x y f e = refl
 or_more false x y f e = f e
 
@@ -60,11 +53,11 @@ all_more p q f (x ∷ xs) e =
     let rest = all_more p q f xs both.1 in
     rw (here, rest) refl
 
-module _ (one other : Scope) (u : Under one other) where
-  same_customer : (c : ℕ) → has_customer one c ≡ has_customer other c
+module _ (one other : Scope) (u : IsCoarser one other) where
+  pub same_customer : (c : ℕ) → has_customer one c ≡ has_customer other c
   same_customer c = ap (λ cs. is_among cs c) u.customers
 
-  same_item : (q : Place) → has_item one q ≡ has_item other q
+  pub same_item : (q : Place) → has_item one q ≡ has_item other q
   same_item q = ap (λ qs. is_place_among qs q) u.items
 
   allows_more : (c : ℕ) (q : Place) → allows other c q ≡ true → allows one c q ≡ true
@@ -93,7 +86,7 @@ module _ (one other : Scope) (u : Under one other) where
   allowed_more (command.Cancel c kind id) e = refl
   allowed_more command.Audit e = refl
 
-  same_changes : (c : Command) → command_changes one c ≡ command_changes other c
+  pub same_changes : (c : Command) → command_changes one c ≡ command_changes other c
   same_changes (command.Add kind id num price) = same_item (kind, id)
   same_changes (command.Delete kind id num) = same_item (kind, id)
   same_changes (command.DropFlight id) = same_item (Flight, id)

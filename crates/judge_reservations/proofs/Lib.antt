@@ -19,3 +19,10 @@ pub mod Whole
 pub mod Numbered
 pub mod Larger
 pub mod Joined
+pub mod CutParts
+pub mod Spaces
+pub mod FinerCommands
+pub mod FinerUpdates
+pub mod FinerTrips
+pub mod FinerFits
+pub mod FinerParts

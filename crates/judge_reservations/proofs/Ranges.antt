@@ -1,14 +1,13 @@
 -- The part of a task that can be asked for can be asked for, and states after such tasks have parts.
-use Rattle.std.proofs.Common.{◌≡◌, ℕ, ◌&&◌, ◌||◌, not, Bool, true, false, cond, List, refl, ap, ◌∙◌, arith}
+use Rattle.std.proofs.Common.{◌≡◌, ℕ, ◌&&◌, ◌||◌, not, Bool, true, false, cond, List, refl, ap, arith}
 use Rattle.std.specs.Prelude.{Option, Some, None, ⊤}
 use Rattle.vac_model.specs.declared.items.Kind.{Kind}
-use Rattle.vac_model.specs.declared.items.Kind.TheVariants.{Car, Flight, Room}
+use Rattle.vac_model.specs.declared.items.Kind.TheVariants.{Flight}
 use Rattle.vac_model.specs.declared.commands.Command.{Command}
 use Rattle.vac_model.specs.declared.commands.Command.TheVariants as command
 use Rattle.vac_model.specs.declared.commands.Refusal.TheVariants.{Full, NoItem, NotFree, InUse, NoCustomer, SoldOut}
 use Rattle.vac_model.specs.declared.replies.Reply.TheVariants as reply
 use Rattle.vac_model.specs.declared.tasks.Task.{Task}
-use Rattle.vac_model.specs.declared.tasks.Task.TheVariants as task
 use Rattle.vac_model.specs.State.{State}
 use Rattle.vac_model.specs.Amounts.{is_id, is_amount, is_unit_count, has_deletable_units}
 use Rattle.vac_model.specs.Ranges.{is_command, is_task}
@@ -65,7 +64,9 @@ command_range scope (command.NewCustomer id) text e =
 command_range scope (command.DropCustomer id) text e = range_if (has_customer scope id) _ _ e tt
 command_range scope (command.Free kind id) text e = range_if (is_closed scope (kind, id)) _ _ e tt
 command_range scope (command.Price kind id) text e = range_if (has_item scope (kind, id)) _ _ e tt
-command_range scope (command.Bill id) text e = range_if (is_whole scope id) _ _ e tt
+command_range scope (command.Bill id) text e =
+    range_if (has_customer scope id) _ _
+    (range_if (is_whole scope id || is_reply (reply.Number None) text) _ _ e tt) tt
 command_range scope (command.Reserve c kind id num) text e =
     let outer = both_true (is_id c && is_id id) (is_unit_count num) e in
     let inner = both_true (is_id c) (is_id id) outer.0 in

@@ -1,5 +1,5 @@
 -- Scopes: some customers and some items of the reservation system.
-use Rattle.std.specs.Prelude.{ℕ, Bool, List, ◌==◌, ◌&&◌, ◌||◌, not}
+use Rattle.std.specs.Prelude.{◌≡◌, ℕ, Bool, true, List, ◌==◌, ◌&&◌, ◌||◌, not}
 use Rattle.std.specs.List.{list_any}
 use Rattle.vac_model.specs.State.{Place, kind_number}
 use Rattle.judge_reservations.specs.declared.scope.Scope.{Scope}
@@ -34,3 +34,11 @@ abbrev pub allows : Scope → ℕ → Place → Bool
 allows scope c place =
     (has_customer scope c || not (is_closed scope place))
     && (has_item scope place || not (is_whole scope c))
+
+-- the first scope has the customers and the items of the second scope, and no closed items and no
+-- whole customers but those of the second scope. So a part on the first scope says no more
+pub record IsCoarser (one other : Scope) : Type 0 where
+  pub customers : one.customers.items ≡ other.customers.items
+  pub items : one.items.items ≡ other.items.items
+  pub closed : (place : Place) → is_closed one place ≡ true → is_closed other place ≡ true
+  pub whole : (c : ℕ) → is_whole one c ≡ true → is_whole other c ≡ true

@@ -97,8 +97,20 @@ reserve_part scope c kind id num text =
     else kept (task.One (command.Reserve c kind id num)) text
     )
 
+-- tests if a bill of a customer of the scope is kept: the scope has all items that the customer
+-- books, or the reply shows that the customer is missing
+abbrev pub keeps_bill : Scope → ℕ → List ℕ → Bool
+keeps_bill scope c text = is_whole scope c || is_reply (reply.Number None) text
+
+-- the part of a bill
+abbrev pub bill_part : Scope → ℕ → List ℕ → Option Answered
+bill_part scope c text =
+    if has_customer scope c then (
+    if keeps_bill scope c text then Some (task.One (command.Bill c), text) else None
+    ) else None
+
 -- the part of a completed command. A number of free units is kept if all customers who book the
--- item belong to the scope, a bill if the scope has all items that the customer books.
+-- item belong to the scope.
 abbrev pub command_part : Scope → Command → List ℕ → Option Answered
 command_part scope (command.Add kind id num price) text = add_part scope kind id num price text
 command_part scope (command.Delete kind id num) text =
@@ -113,8 +125,7 @@ command_part scope (command.Free kind id) text =
     if is_closed scope (kind, id) then Some (task.One (command.Free kind id), text) else None
 command_part scope (command.Price kind id) text =
     if has_item scope (kind, id) then Some (task.One (command.Price kind id), text) else None
-command_part scope (command.Bill id) text =
-    if is_whole scope id then Some (task.One (command.Bill id), text) else None
+command_part scope (command.Bill id) text = bill_part scope id text
 command_part scope (command.Reserve customer kind id num) text =
     reserve_part scope customer kind id num text
 command_part scope (command.Cancel customer kind id) text =
@@ -122,11 +133,11 @@ command_part scope (command.Cancel customer kind id) text =
     (Some (task.One (command.Cancel customer kind id), text))
 command_part scope command.Audit text = None
 
--- a leave shows the bill, if it is whole, and else that its customer leaves
+-- a leave shows the bill, if the bill is kept, and else that its customer leaves
 abbrev pub leave_part : Scope → ℕ → List ℕ → Option Answered
 leave_part scope c text =
     if has_customer scope c then (
-    if is_whole scope c || is_reply (reply.Number None) text then Some (task.Leave c, text)
+    if keeps_bill scope c text then Some (task.Leave c, text)
     else Some (task.One (command.DropCustomer c), reply_text reply.Done)
     ) else None
 

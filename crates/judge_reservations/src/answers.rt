@@ -30,8 +30,9 @@ pub struct AnsweredTask {
 pub(crate) type Seen<'a> = (Command, &'a [u8]);
 
 /// Returns the part of a completed task on a scope, or `None` if nothing of the task is kept. A
-/// bill of a customer who is not whole, and the free units of an item that is not closed, are not
-/// kept, though their replies may show that the customer or the item exists.
+/// bill of a customer who is not whole, unless the customer is missing, and the free units of an
+/// item that is not closed, are not kept, though their replies may show that the customer or the
+/// item exists.
 pub fn task_part(
     alloc: Global,
     scope: &Scope,
@@ -64,6 +65,14 @@ pub(crate) fn owned(
     }
 }
 
+/// Returns whether a bill of a customer of the scope is kept: the scope has all items that the
+/// customer books, or the reply shows that the customer is missing.
+fn keeps_bill(scope: &Scope, customer: u32, text: &[u8]) -> bool
+    ensures { result ≡ spec.keeps_bill scope.now customer text.now }
+{
+    scope.is_whole(customer) || text == b"-1".as_slice()
+}
+
 /// Returns the part of a completed leave.
 fn leave_part(
     alloc: Global,
@@ -76,7 +85,7 @@ fn leave_part(
     if !scope.has_customer(customer) {
         return Ok(None);
     }
-    if scope.is_whole(customer) || text == b"-1".as_slice() {
+    if keeps_bill(scope, customer, text) {
         return Ok(Some(AnsweredTask {
             task: Task::Leave { customer },
             text: Vec::from_slice(alloc, text)?,
@@ -121,7 +130,13 @@ fn command_part<'a>(scope: &Scope, command: Command, text: &'a [u8]) -> Option<S
         Command::DropCustomer { id } => kept_if(scope.has_customer(id), command, text),
         Command::Free { kind, id } => kept_if(scope.is_closed(kind, id), command, text),
         Command::Price { kind, id } => kept_if(scope.has_item(kind, id), command, text),
-        Command::Bill { id } => kept_if(scope.is_whole(id), command, text),
+        Command::Bill { id } => {
+            kept_if(
+                scope.has_customer(id) && keeps_bill(scope, id, text),
+                command,
+                text,
+            )
+        }
         Command::Reserve {
             customer,
             kind,

@@ -21,7 +21,10 @@ pub use calls::fits;
 pub use chosen::scope_of;
 pub use history::part_of_history;
 pub use laws::{
-    illegal_parts_show_illegal_histories, parts_of_linearizable_histories_are_linearizable,
+    calls_of_cuts_have_parts, illegal_parts_show_illegal_histories,
+    illegal_parts_show_that_finer_parts_are_illegal,
+    parts_of_linearizable_histories_are_linearizable, the_part_of_a_cut_is_the_cut_of_the_part,
+    the_part_of_a_part_is_the_part,
 };
 pub use pending::pending_part;
 pub use reservations::Reservations;
