@@ -14,6 +14,7 @@ from pathlib import Path
 LOGS, NEVER, MOST_UNASKED, TURNS = 60, 1 << 64, 1 << 14, 200
 NONE = "warning: there is no {}: {} says nothing\n"
 FEW = "warning: fewer than one {} in ten began beside another: {} says little\n"
+BEHIND = "warning: tasks behind a call without END are not missing; such calls: {}\n"
 CALLS = [["judge"], ["judge", "--any-order"], ["order"]]
 ATTEMPTS = [["opaque"], ["opaque", "--place"]]
 
@@ -94,6 +95,9 @@ def check_log(program, words, lines, what, end="\n"):
     """Runs a command with and without `--stats`, and returns its status."""
     told, warning = figures(lines, what)
     plain, asked = run(program, words, lines, end), run(program, words + ["--stats"], lines, end)
+    pending = sum(line.split(" ")[2:3] == ["-"] for line in lines)
+    if "--tasks" in words and pending:
+        warning += BEHIND.format(pending)
     warning = warning if plain[1] == 0 else ""
     want(plain[:2] == asked[:2], f"{words}: {plain}, with --stats {asked}")
     want(plain[2] == warning, f"{words}: {plain[2]!r}, not {warning!r}, of {lines}")
@@ -112,6 +116,19 @@ def check_tasks(program):
     for words in (["judge", "--tasks", "/no/such/file"], ["judge", "--any-order", "--tasks", "/no/such/file"]):
         ended = run(program, words, lines)
         want(ended == ("fault open\n", 1, ""), f"{words}: {ended}")
+
+
+def check_pending(program):
+    """Tasks behind calls that never ended: those calls are counted, if the history is legal and has a workload."""
+    whole = ["1 1 9 newcust 1 -> true", "2 2 8 newcust 2 -> true"]
+    with tempfile.NamedTemporaryFile("w") as file:
+        file.write("1 newcust 1\n2 newcust 2\n3 newcust 3\n3 newcust 4\n4 newcust 5\n4 newcust 6\n")
+        file.flush()
+        for more in (["3 3 - newcust 3 -> ?"], ["3 3 - newcust 3 -> true", "4 4 - newcust 5 -> ?"]):
+            for words in (["judge"], ["judge", "--any-order"]):
+                status = check_log(program, words + ["--tasks", file.name], whole + more, "call")
+                want(words != ["judge"] or status == (0 if len(more) == 2 else 1), f"{words} --tasks: status {status} with {more}")
+                want(check_log(program, words, whole + more, "call") == 0, f"{words}: pending calls are illegal")
 
 
 def check_long(program):
@@ -145,6 +162,7 @@ def main():
                     want(check_log(program, words, damaged, what, "\n") == 1, f"{words}: {damaged} is right")
     want(TURNS > warned > 20, f"{warned} logs of {2 * LOGS} are warned of")
     check_tasks(program)
+    check_pending(program)
     check_long(program)
     for words in (["run"], ["dump"], ["check"], ["part", "--customer", "1"], ["tasks"]):
         want(run(program, words + ["--stats"], [])[1] == 2, f"{words} takes --stats")

@@ -1,5 +1,5 @@
 -- The report of a judge on its log.
-use Rattle.std.proofs.Common.{◌≡◌, ◌∙◌, ◌++◌, ℕ, Bool, true, false, List, [], Option, None, Some, ap, sym, subst, refl}
+use Rattle.std.proofs.Common.{◌≡◌, ◌∙◌, ◌++◌, ℕ, Bool, true, false, List, [], Option, None, Some, is_some, ap, sym, subst, refl}
 use Rattle.std.proofs.Common.{append-nil}
 use Rattle.vac_lines.specs.Writing.{AppendsPrefix}
 use Rattle.cli_main.specs.declared.asked.JudgeSettings.{JudgeSettings}
@@ -23,12 +23,12 @@ both start middle last first second e f g =
     g ∙ ap (λ m. m ++ second) (f ∙ ap (λ s. s ++ first) e)
 
 -- the report was written to what was there, unless progress lines were
-pub beside : (progress stats : Bool) (status : ℕ) (held middle holds : Option (List ℕ)) →
-    (progress ≡ false → middle ≡ held) → ReportsCalls stats status middle holds →
-    ReportsBeside progress stats status held holds
-beside true stats status held middle holds untold report = tt
-beside false stats status held middle holds untold report =
-    subst (λ h. ReportsCalls stats status h holds) (untold refl) report
+pub beside : (progress stats asks : Bool) (status : ℕ) (held middle holds : Option (List ℕ)) →
+    (progress ≡ false → middle ≡ held) → ReportsCalls stats asks status middle holds →
+    ReportsBeside progress stats asks status held holds
+beside true stats asks status held middle holds untold report = tt
+beside false stats asks status held middle holds untold report =
+    subst (λ h. ReportsCalls stats asks status h holds) (untold refl) report
 
 -- the command line is refused
 pub reports_refused : (how : JudgeSettings) (status : ℕ) (told tells : Option (List ℕ)) →
@@ -37,7 +37,8 @@ reports_refused how status told tells is = subst (λ b. ReportsUnless b how stat
 
 -- the command line is not refused
 pub reports_asked : (how : JudgeSettings) (status : ℕ) (told tells : Option (List ℕ)) →
-    is_refused how ≡ false → ReportsBeside how.search.progress how.search.stats status told tells →
+    is_refused how ≡ false →
+    ReportsBeside how.search.progress how.search.stats (is_some how.tasks) status told tells →
     ReportsUnless (is_refused how) how status told tells
 reports_asked how status told tells is report =
     subst (λ b. ReportsUnless b how status told tells) (sym is) report

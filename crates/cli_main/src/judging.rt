@@ -189,6 +189,7 @@ pub(crate) fn judge<T: Clock + AllocGlobal, F: Open, R: Read, W: Write, E: Write
     report_calls(
         rt.alloc(),
         how.search.stats,
+        how.tasks.is_some(),
         status,
         input.measure_calls(),
         errors,

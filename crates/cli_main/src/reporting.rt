@@ -2,14 +2,15 @@
 
 ghost use Rattle.std.specs.Prelude.{◌≡◌, ◌==◌, ◌++◌, [], IfOk, OnOk, if◌then◌else◌};
 ghost use Rattle.vac_lines.specs.Writing.{AppendsPrefix};
-ghost use Rattle.judge_coverage.specs.Text.{calls_coverage_text, calls_warning_text};
+ghost use Rattle.judge_coverage.specs.Text.{calls_coverage_text, pending_warning_text};
 ghost use Rattle.judge_coverage.specs.Text.{attempts_coverage_text, attempts_warning_text};
 ghost use Rattle.cli_main.specs.Reporting.{unmeasured_line, calls_report, attempts_report};
+ghost use Rattle.cli_main.specs.Reporting.{calls_warnings};
 
 use crate::status::{DONE, write_last};
 use judge_coverage::{
     AttemptCoverage, Coverage, MOST_ENTRIES, print_attempts_coverage, print_attempts_warning,
-    print_calls_coverage, print_calls_warning,
+    print_calls_coverage, print_calls_warning, print_pending_warning,
 };
 use std::alloc::{AllocError, Global};
 use std::io::Write;
@@ -52,17 +53,34 @@ fn append_calls_figures(
     Ok(())
 }
 
-/// Appends the warning about a log of calls if the status is that of a positive verdict.
-fn append_calls_warning(
+/// Appends the warning about calls that never ended if the log is checked against a workload.
+fn append_pending_warning(
+    asks: bool,
+    coverage: &Coverage,
+    out: &mut Vec<u8>,
+) -> Result<(), AllocError>
+    ensures { OnOk result (out.new.items
+        ≡ out.old.items ++ (if asks then pending_warning_text coverage.now else [])) }
+{
+    if asks {
+        return print_pending_warning(coverage, out);
+    }
+    Ok(())
+}
+
+/// Appends the warnings about a log of calls if the status is that of a positive verdict.
+fn append_calls_warnings(
+    asks: bool,
     status: u8,
     coverage: &Coverage,
     out: &mut Vec<u8>,
 ) -> Result<(), AllocError>
     ensures { OnOk result (out.new.items
-        ≡ out.old.items ++ (if status == 0 then calls_warning_text coverage.now else [])) }
+        ≡ out.old.items ++ (if status == 0 then calls_warnings asks coverage.now else [])) }
 {
     if status == DONE {
-        return print_calls_warning(coverage, out);
+        print_calls_warning(coverage, out)?;
+        return append_pending_warning(asks, coverage, out);
     }
     Ok(())
 }
@@ -101,10 +119,11 @@ fn append_attempts_warning(
 fn calls_report(
     alloc: Global,
     stats: bool,
+    asks: bool,
     status: u8,
     coverage: Option<Coverage>,
 ) -> Result<Vec<u8>, AllocError>
-    ensures { IfOk result (λ text. text.items ≡ calls_report stats status coverage) }
+    ensures { IfOk result (λ text. text.items ≡ calls_report stats asks status coverage) }
 {
     let mut text = Vec::new(alloc);
     let Some(coverage) = coverage else {
@@ -112,7 +131,7 @@ fn calls_report(
         return Ok(text);
     };
     append_calls_figures(stats, &coverage, &mut text)?;
-    append_calls_warning(status, &coverage, &mut text)?;
+    append_calls_warnings(asks, status, &coverage, &mut text)?;
     Ok(text)
 }
 
@@ -136,20 +155,22 @@ fn attempts_report(
 }
 
 /// Writes the report on a log of calls to `errors`: the figures if they are asked for, and the
-/// warning if the status is that of a positive verdict. Writes nothing if memory is refused; a
+/// warnings if the status is that of a positive verdict. `asks` says whether the log is checked
+/// against a workload. Writes nothing if memory is refused; a
 /// failed write changes nothing.
 #[tactic(auto, using(crate::proofs::Reported::none_of, crate::proofs::Reported::shown))]
 pub(crate) fn report_calls<E: Write>(
     alloc: Global,
     stats: bool,
+    asks: bool,
     status: u8,
     coverage: Option<Coverage>,
     errors: &mut E,
 )
     ensures { AppendsPrefix (E.contents errors.old) (E.contents errors.new)
-        (calls_report stats status coverage) }
+        (calls_report stats asks status coverage) }
 {
-    if let Ok(text) = calls_report(alloc, stats, status, coverage) {
+    if let Ok(text) = calls_report(alloc, stats, asks, status, coverage) {
         write_last(text.as_slice(), errors);
     }
 }

@@ -134,7 +134,7 @@ pub(crate) fn order<T: Clock + AllocGlobal, R: Read, W: Write, E: Write>(
     ensures ordered { Orders search.level blocks search.steps result
         (R.remaining (inner_of input.old)) (R.remaining (inner_of input.new))
         (W.contents output.old) (W.contents output.new) }
-    ensures reported { ReportsBeside search.progress search.stats result
+    ensures reported { ReportsBeside search.progress search.stats false result
         (E.contents errors.old) (E.contents errors.new) }
 {
     input.watch(CALL_BYTES, most_watched(search.stats));
@@ -142,6 +142,7 @@ pub(crate) fn order<T: Clock + AllocGlobal, R: Read, W: Write, E: Write>(
     report_calls(
         rt.alloc(),
         search.stats,
+        false,
         status,
         input.measure_calls(),
         errors,

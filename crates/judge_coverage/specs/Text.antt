@@ -53,6 +53,13 @@ calls_warning_text c =
     (codes "warning: there is no call: legal says nothing")
     (codes "warning: fewer than one call in ten began beside another: legal says little")
 
+-- the warning about calls that never ended: their number, if there are any
+abbrev pub pending_warning_text : Coverage → List ℕ
+pending_warning_text c =
+    if c.pending == 0 then []
+    else fact_line (codes "warning: tasks behind a call without END are not missing; such calls: ")
+    c.pending
+
 -- the warning about attempts
 abbrev pub attempts_warning_text : AttemptCoverage → List ℕ
 attempts_warning_text c =

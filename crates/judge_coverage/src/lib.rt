@@ -22,5 +22,6 @@ pub use coverage::{Coverage, measure_calls};
 pub use entries::MOST_ENTRIES;
 pub use text::{
     print_attempts_coverage, print_attempts_warning, print_calls_coverage, print_calls_warning,
+    print_pending_warning,
 };
 pub use watched::Watched;

@@ -4,6 +4,7 @@ ghost use Rattle.std.specs.Prelude.{◌≡◌, ◌++◌, ℕ, List, OnOk, OnErr}
 ghost use Rattle.vac_lines.specs.Text.{Extends};
 ghost use Rattle.vac_lines.specs.Script.{as_line};
 ghost use Rattle.judge_coverage.specs.Text.{fact_line, calls_coverage_text, attempt_numbers_text, attempt_overlaps_text, attempts_coverage_text, warning_of, calls_warning_text, attempts_warning_text};
+ghost use Rattle.judge_coverage.specs.Text.{pending_warning_text};
 
 use crate::attempts::AttemptCoverage;
 use crate::coverage::Coverage;
@@ -23,6 +24,9 @@ const NO_ATTEMPT: &[u8] = b"warning: there is no attempt: opaque says nothing\n"
 /// The warning about a log of which fewer than one attempt in ten began beside another one.
 const FEW_ATTEMPTS: &[u8] =
     b"warning: fewer than one attempt in ten began beside another: opaque says little\n";
+
+/// The warning about calls that never ended, in front of their number.
+const NO_END: &[u8] = b"warning: tasks behind a call without END are not missing; such calls: ";
 
 /// Appends a line with a name and a number.
 fn append_fact(out: &mut Vec<u8>, name: &[u8], number: u64) -> Result<(), AllocError>
@@ -137,6 +141,21 @@ pub fn print_calls_warning(coverage: &Coverage, out: &mut Vec<u8>) -> Result<(),
     ensures err { OnErr result (out.new.items ≡ out.old.items) }
 {
     out.extend_from_slice(warning_of(coverage, NO_CALL, FEW_CALLS))
+}
+
+/// Appends the warning about calls that never ended, which is a line with their number: the tasks
+/// of their clients behind them do not count as missing. Appends nothing if there is no such call,
+/// or if memory is refused.
+pub fn print_pending_warning(coverage: &Coverage, out: &mut Vec<u8>) -> Result<(), AllocError>
+    ensures ok { OnOk result (out.new.items ≡ out.old.items ++ pending_warning_text coverage.now) }
+    ensures err { OnErr result (out.new.items ≡ out.old.items) }
+{
+    if coverage.pending == 0 {
+        return Ok(());
+    }
+    let start = out.len();
+    let printed = append_fact(out, NO_END, coverage.pending);
+    keep_whole(out, start, printed)
 }
 
 /// Appends the warning about a log of attempts that shows little, which is a line. Appends nothing

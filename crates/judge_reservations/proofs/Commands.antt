@@ -47,7 +47,8 @@ use Rattle.judge_reservations.specs.Tasks.{item_missing, customer_seen, item_see
 use Rattle.judge_reservations.specs.Tasks.{command_allowed}
 use Rattle.judge_reservations.proofs.Numbers.{part_not_full, item_in_part, item_missing_part, free_below, closed_same}
 use Rattle.judge_reservations.proofs.Numbers.{customer_in_part, customer_missing_part, booking_in_part, whole_same}
-use Rattle.judge_reservations.proofs.Effects.{Near, offer, near_item_both, near_gone_both, near_booked_both, near_new_both}
+use Rattle.judge_reservations.proofs.Effects.{Near, offer, near_item_both, near_gone_both, near_booked_both}
+use Rattle.judge_reservations.proofs.Effects.{near_new_both}
 use Rattle.judge_reservations.proofs.Effects.{near_left_both}
 use Rattle.judge_reservations.proofs.Outside.{departs, booked, reserve_cases, cancel_cases, add_out, delete_out}
 use Rattle.judge_reservations.proofs.Outside.{drop_flight_out}

@@ -27,4 +27,4 @@ returns-clause-judged g c =
 pub returns-clause-reported : goal.returns-clause-reported
 returns-clause-reported g c =
     reports_asked _ _ _ _ (sym c.refusal_of.ensures ∙ ap is_some c.in_default.is)
-    (beside _ _ _ _ _ _ c.judge_as-status.ensures.untold (c.measure_calls.result, c.report_calls.ensures))
+    (beside _ _ _ _ _ _ _ c.judge_as-status.ensures.untold (c.measure_calls.result, c.report_calls.ensures))

@@ -11,4 +11,4 @@ returns-clause-ordered g c =
 
 pub returns-clause-reported : goal.returns-clause-reported
 returns-clause-reported g c =
-    beside _ _ _ _ _ _ c.find_order_watched-status.ensures.untold (c.measure_calls.result, c.report_calls.ensures)
+    beside _ _ _ _ _ _ _ c.find_order_watched-status.ensures.untold (c.measure_calls.result, c.report_calls.ensures)
