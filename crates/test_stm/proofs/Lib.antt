@@ -5,3 +5,4 @@ mod Tabled
 mod Recorded
 mod Owned
 mod Nulled
+mod Walked

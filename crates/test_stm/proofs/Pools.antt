@@ -5,7 +5,8 @@ use Rattle.stm_logs.specs.Log.{LogValue, empty_log, log_pairs}
 use Rattle.stm_region.specs.Shown.{RegionShown, ClientShown}
 use Rattle.stm_attempt.specs.Meaning.{memory_of, origin_of}
 use Rattle.stm_attempt.specs.Leading.{IsLocal, Carries, KeepsFitting, records_lead}
-use Rattle.tx_alloc.specs.Pool.{IsPool, IsEmptyHeap, HasPool, NoneFree, Taken, fresh_lists}
+use Rattle.tx_alloc.specs.Pool.{IsPool, HasPool, NoneFree, Taken}
+use Rattle.tx_alloc.specs.Spread.{IsSpreadHeap, spread_lists}
 use Rattle.tx_alloc.proofs.Moves.{pool_within}
 use Rattle.test_stm.specs.Laws.{Fits, HoldsUnder, IsHeapOfTen}
 
@@ -48,10 +49,10 @@ heap_lawful in_use in_use' region region' name name' logs logs' c c' w w' runs e
     records_lead (λ (image : List ℕ). Fits IsHeapOfTen image) IsHeapOfTen IsHeapOfTen heap_local heap_local in_use
     in_use' region region' name name' logs logs' c c' w w' runs e origin carries image f a f
 
--- the words of an empty heap
-pub fresh_fits : (xs ys : List ℕ) → ys ≡ xs → IsEmptyHeap xs 10 →
-    IsPool (λ (a : ℕ). slice_index xs a) (length xs) (fresh_lists 10) (λ (x : ℕ). 0) 0 → Fits IsHeapOfTen ys
-fresh_fits xs ys e h p = rw e (record {
+-- the words of a partitioned heap
+pub spread_fits : (xs ys : List ℕ) → ys ≡ xs → IsSpreadHeap xs 10 →
+    IsPool (λ (a : ℕ). slice_index xs a) (length xs) (spread_lists 10) (λ (x : ℕ). 0) 0 → Fits IsHeapOfTen ys
+spread_fits xs ys e h p = rw e (record {
   size = omega (arith, h.size);
-  pool = record { free = fresh_lists 10; used = λ (x : ℕ). 0; count = 0; pool = p };
+  pool = record { free = spread_lists 10; used = λ (x : ℕ). 0; count = 0; pool = p };
 })

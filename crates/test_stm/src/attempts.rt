@@ -3,8 +3,8 @@ ghost use Rattle.std.specs.Prelude.{◌≡◌, ◌<◌, IfOk};
 ghost use Rattle.stm_core.specs.Core.{IsFreeHanded};
 
 use stm_attempt::{Attempt, Logs, NoGate, Refusal, Stop};
-use stm_region::{Client, Region};
 use stm_core::{FreeLaw, Version};
+use stm_region::{Client, Region};
 use tx_memory::{Addr, TxMem, TxRead};
 
 /// Writes a word in one attempt. Its client then knows the version that the attempt returns, and

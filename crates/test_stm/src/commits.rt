@@ -8,8 +8,8 @@ use crate::same::{close, same, split, version};
 use std::process::Abort;
 use std::test::Fail;
 use stm_attempt::{Attempt, Conflict, Logs, NoGate, ReadAttempt, Refusal, Stop};
-use stm_region::{Client, Region};
 use stm_core::{FreeLaw, Version};
+use stm_region::{Client, Region};
 use tx_memory::{Addr, TxMem, TxRead};
 
 /// Returns the sum of two words.

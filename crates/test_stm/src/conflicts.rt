@@ -6,8 +6,8 @@ use crate::attempts::{read_one, write_one};
 use crate::same::{same, split, version};
 use std::test::Fail;
 use stm_attempt::{Attempt, Conflict, Logs, NoGate, Stop};
-use stm_region::{Client, Region};
 use stm_core::{FreeLaw, Version};
+use stm_region::{Client, Region};
 use tx_memory::{Addr, TxMem, TxRead};
 
 /// Reads word 9 and writes a word, while the other client writes 1 to word 9.

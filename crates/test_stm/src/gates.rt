@@ -9,8 +9,8 @@ use std::alloc::Global;
 use std::process::Abort;
 use std::test::Fail;
 use stm_attempt::{Attempt, Conflict, Gate, Logs, NoGate, Point, Refusal, Stop};
-use stm_region::{Client, Region, RegionFault};
 use stm_core::{FreeLaw, Version};
+use stm_region::{Client, Region, RegionFault};
 use tx_memory::{Addr, TxMem, TxRead};
 
 type Answer = Result<Version, Stop>;

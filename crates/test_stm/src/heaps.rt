@@ -10,9 +10,9 @@ use crate::words::{has_words, place_of};
 use std::alloc::Global;
 use std::test::Fail;
 use stm_attempt::{Attempt, Logs, NoGate};
-use stm_region::{Client, Region};
 use stm_core::{Law, Version};
-use tx_alloc::{Block, FreeList, fresh_words, give, take};
+use stm_region::{Client, Region};
+use tx_alloc::{Block, FreeList, give, spread_words, take};
 use tx_memory::{Addr, Flat, TxMem};
 
 /// The law of heaps of ten blocks. An image fits if it is such a heap, and a record is lawful if
@@ -36,7 +36,7 @@ fn heap_region(alloc: Global) -> Result<(Region<HeapLaw>, Client<HeapLaw>), Fail
     ensures own { IfOk result (λ r. r.1.table ≡ r.0.table) }
     ensures free { IfOk result (λ r. IsFreeHanded r.1.value) }
 {
-    let words = fresh_words(alloc, 10)?;
+    let words = spread_words(alloc, 10)?;
     Ok(Region::<HeapLaw>::new(alloc, words.as_slice(), 100, 96)?)
 }
 
@@ -116,11 +116,11 @@ fn two_clients_take_from_different_lists(rt: HostRuntime) -> Result<(), Fail> {
         (taken, words, last)
     };
     let mine = (Block(Addr(16)), version(&rt, 2));
-    let theirs = (Block(Addr(24)), version(&rt, 1));
+    let theirs = (Block(Addr(32)), version(&rt, 1));
     same(&rt, &taken, &[Some(mine), Some(theirs)]);
     same(&rt, &last, &version(&rt, 2));
-    let fresh = fresh_words(alloc, 10)?;
-    let heads = [80u64, 88, 32, 40, 48, 56, 64, 72];
+    let fresh = spread_words(alloc, 10)?;
+    let heads = [24u64, 40, 48, 56, 64, 72, 80, 88];
     let same = words.get(8..16) == Some(heads.as_slice());
     holds(&rt, same && words.get(16..) == fresh.get(16..));
     Ok(())
@@ -179,7 +179,7 @@ fn move_two_in_an_attempt(
 #[test]
 fn blocks_of_plain_memory_and_of_a_region(rt: HostRuntime) -> Result<(), Fail> {
     let alloc = rt.alloc();
-    let words = fresh_words(alloc, 10)?;
+    let words = spread_words(alloc, 10)?;
     let mut flat = Flat::new(words);
     let Ok(expected) = move_two(&mut flat);
     let words = flat.words();
@@ -192,7 +192,7 @@ fn blocks_of_plain_memory_and_of_a_region(rt: HostRuntime) -> Result<(), Fail> {
     same(
         &rt,
         &expected,
-        &[Some(Addr(24)), Some(Addr(40)), Some(Addr(40))],
+        &[Some(Addr(32)), Some(Addr(56)), Some(Addr(56))],
     );
     Ok(())
 }

@@ -9,9 +9,9 @@ use linked_list_allocator::LocalHeap;
 use std::alloc::Allocator;
 use std::test::Fail;
 use stm_attempt::{Attempt, Logs, NoGate, Refusal, Stop};
+use stm_core::{FreeLaw, Version};
 use stm_logs::{ReadLog, WriteLog};
 use stm_region::{Client, Region};
-use stm_core::{FreeLaw, Version};
 use tx_memory::{Addr, TxMem, TxRead};
 
 /// Pushes addresses until memory is refused. Returns the length of the log.

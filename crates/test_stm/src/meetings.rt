@@ -5,8 +5,8 @@ use crate::gates::{CommitsAt, Running, write_under};
 use crate::same::{same, split, version};
 use std::test::Fail;
 use stm_attempt::{Attempt, Conflict, Logs, Point, Stop};
-use stm_region::Region;
 use stm_core::FreeLaw;
+use stm_region::Region;
 use tx_memory::{Addr, TxMem, TxRead};
 
 /// The other client's tick comes between the locks and the tick of the first commit, and is the

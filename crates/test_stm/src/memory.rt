@@ -5,8 +5,8 @@ use linked_list_allocator::LocalHeap;
 use std::alloc::{Allocator, Global};
 use std::test::Fail;
 use stm_attempt::{Attempt, Logs, NoGate, Refusal, Stop};
-use stm_region::{Region, RegionFault};
 use stm_core::{FreeLaw, Version};
+use stm_region::{Region, RegionFault};
 use tx_memory::{Addr, TxMem, TxRead};
 
 /// The number of words read or written, the refusal that followed, and the result of the commit.

@@ -6,8 +6,8 @@ ghost use Rattle.stm_region.specs.Shown.{HasSplit};
 use std::alloc::Global;
 use std::fmt::Debug;
 use std::process::Abort;
-use stm_region::{Client, Region};
 use stm_core::{Law, Version};
+use stm_region::{Client, Region};
 
 pub(crate) fn same<T: PartialEq + Debug>(rt: &impl Abort, got: &T, want: &T) {
     assert_eq!(rt; *got, *want);

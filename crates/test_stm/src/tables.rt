@@ -8,12 +8,12 @@ use crate::words::has_words;
 use std::alloc::Global;
 use std::test::Fail;
 use stm_attempt::{Attempt, Logs};
-use stm_region::{Client, Region};
 use stm_core::Law;
+use stm_region::{Client, Region};
 use tx_alloc::Block;
 use tx_alloc::place::MOST_BLOCKS;
 use tx_memory::{Addr, Flat, TxMem, TxRead, load};
-use tx_tree::{find, insert, least_above, remove};
+use tx_tree::{Walk, find, insert, remove};
 
 const ROOT: Addr = Addr(3);
 
@@ -88,19 +88,18 @@ fn cut<M: TxMem>(memory: &mut M, count: usize, key: u64) -> Result<(usize, Optio
     }
 }
 
-/// Returns the keys of the table in their order, and zeros for missing ones.
+/// Returns the keys of the table in the order of a walk, and zeros for missing ones.
 fn keys<M: TxRead>(memory: &mut M, count: usize) -> Result<[u64; 10], M::Stop>
     requires table { HoldsTable (M.view memory.old) count }
     ensures origin { M.origin memory.new ≡ M.origin memory.old }
     ensures table { IfOk result (λ _. HoldsTable (M.view memory.new) count) }
 {
     let mut keys = [0u64; 10];
-    let mut last = 0;
+    let mut walk = Walk::begin(memory, ROOT)?;
     for i in 0..10usize {
-        let next = least_above(memory, ROOT, last)?;
-        if let Some(entry) = next {
-            keys[i] = entry.key;
-            last = entry.key;
+        if let Some(block) = walk.next(memory)? {
+            let key = load(memory, block.0)?;
+            keys[i] = key;
         }
     }
     Ok(keys)

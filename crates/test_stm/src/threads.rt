@@ -10,8 +10,8 @@ use std::test::Fail;
 use std::thread;
 use std::thread::Threads;
 use stm_attempt::{Attempt, Logs, NoGate};
-use stm_region::{Client, Region};
 use stm_core::FreeLaw;
+use stm_region::{Client, Region};
 use tx_memory::{Addr, TxMem};
 
 const COMMITS: usize = 2_000;
