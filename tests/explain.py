@@ -1,12 +1,14 @@
 #!/usr/bin/env python3
-"""Holds ./explain against the program. Its model answers random scripts as the program does. Its search agrees with the
-program on random small histories, legal and damaged, with pending and undetermined calls. The part of a legal history
-on any scope is legal, and so is the history up to any moment. The parts that the program writes are those of
+"""Holds ./explain against the program. Its model answers random scripts as the program does. Its search agrees with
+the program on random small histories, legal and damaged, with pending and undetermined calls. The part of a legal
+history on any scope is legal, and so is the history up to any moment. The parts that the program writes are those of
 tests/parts.py, of the whole history and of its cut at the end of each call (`part --until`). The part of a verdict
 `illegal part L SCOPE` is illegal as `part --until L` writes it. Each anomaly of tests/anomalies gets its name, a text
-of at most 30 lines, and a smallest run that the program calls illegal; so does one with an undetermined call. Legal
-logs of loads show no contradiction; a damaged log gets the judge's fault; a large one is read in bounded memory. The
-argument is the program; with none it is the one that the last build left."""
+of at most 30 lines, and a smallest run that the program calls illegal; so does one with an undetermined call. Names,
+levels and orders agree, and so do the text and the picture; other causes that give the same calls are told. A legal
+log of which the order of lines is illegal is told as one, and so is a text of another format. Legal logs of loads show
+no contradiction; a damaged log gets the judge's fault; a large one is read in bounded memory. The argument is the
+program; with none it is the one that the last build left."""
 
 import os
 import random
@@ -14,6 +16,7 @@ import re
 import subprocess
 import sys
 import tempfile
+from collections import Counter
 from html.parser import HTMLParser
 from pathlib import Path
 from xml.etree import ElementTree
@@ -25,13 +28,16 @@ from histories import unconfirmed
 from parts import part_of, part_until
 from explaining import history
 from explaining.findings import findings
-from explaining.model import run
+from explaining.levels import LEVELS, SEQUENTIAL, SERIALIZABLE, SNAPSHOT
+from explaining.model import applied, run, transaction
+from explaining.names import FORBIDDEN_BY
 from explaining.parts import Bookings, Scope, cut, project
 from explaining.program import MOST_BLOCKS, Program, is_illegal, opening_tasks
 from explaining.search import first_wrong
 from explaining.tasks import BadLine, read_call, read_task
+from explaining.text import explanation
 
-SCRIPTS, HISTORIES, SEED = 12, 200, 11
+SCRIPTS, HISTORIES, AGREEING, SEED = 12, 200, 160, 11
 # Verdicts whose parts are written and judged, and the most histories that are drawn for them.
 PART_VERDICTS, MOST_DRAWN = 300, 3_000
 PATIENCE = 60
@@ -41,9 +47,11 @@ NAMES = {
     "double-booking": ("double booking", "snapshot isolation", "read committed"),
     "duplicate-execution": ("duplicate execution", "single statements", None),
     "long-fork": ("long fork", "snapshot isolation", "read committed"),
-    "lost-update": ("lost update (P4)", "linearizable", "sequentially consistent"),
+    "lost-update": ("lost write", "linearizable", "sequentially consistent"),
+    "lost-update-of-a-bill": ("lost update (P4)", "snapshot isolation", "read committed"),
     "lost-update-by-an-old-price": ("lost update (P4)", "snapshot isolation", "read committed"),
-    "lost-update-of-two-readers": ("lost update (P4)", "linearizable", "sequentially consistent"),
+    "lost-update-of-two-readers": ("lost write", "linearizable", "sequentially consistent"),
+    "lost-update-without-times": ("double booking (by lost update (P4))", "snapshot isolation", "read committed"),
     "lost-write": ("lost write", "linearizable", "sequentially consistent"),
     "of-no-known-kind": ("of no known kind", "single statements", None),
     "read-skew": ("read skew (G-single, A5A)", "snapshot isolation", "read committed"),
@@ -54,7 +62,21 @@ NAMES = {
     "torn-report": ("torn read", "read committed", "single statements"),
     "write-skew": ("write skew (G2, by a phantom)", "serializable", "snapshot isolation"),
     "write-skew-of-items": ("write skew (G2-item, A5B)", "serializable", "snapshot isolation"),
+    "write-skew-without-times": ("write skew (G2, by a phantom)", "serializable", "snapshot isolation"),
 }
+
+# Sentences on the other causes that give the same calls, and the last lines of schedules, which are not cut.
+TOLD = {
+    "lost-update": "Or 4 was answered from an older state: these calls alone do not tell.",
+    "lost-write": "Or 3 was answered from an older state: these calls alone do not tell.",
+    "stale-read": "Or what 2 wrote was lost: these calls alone do not tell.",
+    "stale-read-of-the-own-write": "Or what 2 wrote was lost: these calls alone do not tell.",
+    "write-skew": "Or what 3 wrote was lost: these calls alone do not tell.",
+    "lost-update-of-a-bill": "7 reads the bookings of customer 4, flight 1, room 5 and removes customer 4's booking of"
+                             " flight 1, customer 4's booking of room 5, customer 4 forbidden: ",
+}
+# Both orders of two updates before a read.
+BOTH_ORDERS = ("2, then 3, then 4: it answered 2, right is 3", "3, then 2, then 4: it answered 2, right is 3")
 
 
 def want(holds, what):
@@ -365,10 +387,92 @@ def holds_anomalies(program, folder):
         text = " ".join(line.strip() for line in lines)
         want(len(lines) <= MOST_LINES and max(map(len, lines)) <= MOST_WIDTH, f"{stem}: too long: {lines}")
         want(lines[1].strip().startswith(kind), f"{stem}: {lines[1]}")
-        between = f"weakest level that forbids them: {forbids}; " + (
-            f"strongest that allows them: {allows}" if allows else "no level here")
-        want(between in text and "proved illegal: " in text and "not proved: " in text, f"{stem}: {lines}")
+        is_timeless = allows in (SEQUENTIAL, SERIALIZABLE) or stem.endswith("-without-times")
+        alone = "these calls alone, without their times" if is_timeless else "these calls alone"
+        levels = f"forbidden: {', '.join(LEVELS[:LEVELS.index(forbids) + 1])}" + (
+            f"; allowed ({alone}): {', '.join(LEVELS[LEVELS.index(allows):])} " if allows else " proved")
+        want(levels in text and "proved illegal: " in text and "not proved: " in text, f"{stem}: {lines}")
+        want(TOLD.get(stem, "") in text, f"{stem}: {TOLD.get(stem)!r} is not told: {lines}")
+        want(stem != "lost-update" or all(f"  {order}" in lines for order in BOTH_ORDERS), f"{stem}: {lines}")
+        want(any(line.startswith("verdict: illegal ") for line in lines), f"{stem}: no verdict: {lines}")
         holds_files(program, folder)
+        picture = (folder / "picture").read_text(encoding="utf-8")
+        want(kind in picture and ("without their times" in picture) == is_timeless, f"{stem}: {picture}")
+        want(kind in (folder / "page").read_text(encoding="utf-8"), f"{stem}: the page has another name")
+
+
+def careless_history(draw):
+    """The lines of a history of a runtime that lets a call read an older state and then write to the newest one."""
+    states, lines, now = [{}], [], 10
+    for line in ("add car 1 2 50", "add room 1 2 60", "newcust 1", "newcust 2"):
+        states = [run(states[-1], read_task(line))[1]]
+        lines.append(f"0 0 0 {line} -> true")
+    ended = {1: 0, 2: 0, 3: 0}
+    for _ in range(draw.randint(4, 12)):
+        now += 3
+        client, task = draw.choice(list(ended)), drawn_line(draw)
+        reply, view = transaction(draw.choice(states[-3:] if draw.random() < 0.5 else states[-1:]), read_task(task))
+        states.append(states[-1] if draw.random() < 0.1 else applied(states[-1], view.writes))
+        begin = max(ended[client], now - draw.randint(0, 9))
+        ended[client] = max(begin, now) + draw.randint(0, 2)
+        lines.append(f"{client} {begin} {ended[client]} {task} -> {reply}")
+        now = max(now, ended[client] - 2)
+    return lines
+
+
+def holds_agreement(program, folder):
+    """The names, the levels and the texts of drawn illegal histories agree. A line `states` of a verdict is read."""
+    log, count, codes = folder / "log", 0, Counter()
+    for seed in range(AGREEING):
+        draw = random.Random(SEED + 5_000 + seed)
+        lines = careless_history(draw)
+        log.write_text("".join(f"{line}\n" for line in lines), encoding="ascii")
+        _, verdict = program.judge_file(log, MOST_BLOCKS)
+        if not is_illegal(verdict[0]):
+            continue
+        read = history.Log(log).history(verdict)
+        explained, found = findings(read, MOST_BLOCKS, program, log, 2)
+        for finding in explained:
+            forbids, levels = FORBIDDEN_BY.get(finding.kind.name), finding.levels
+            want(forbids is None or not levels.allowed[forbids], f"seed {seed}: {finding.kind.name}, which {forbids}"
+                 f" forbids, although it allows the calls: {lines}")
+            want("(P4)" not in finding.kind.title() or not levels.allowed[SNAPSHOT], f"seed {seed}: P4: {lines}")
+            want("right is" in "".join(text := explanation([finding], read, [*verdict, "states 3"], 3, []).split("\n"))
+                 or len(finding.few.calls) > 4, f"seed {seed}: no order: {text}")
+            want(len(text) <= MOST_LINES and max(map(len, text)) <= MOST_WIDTH, f"seed {seed}: too long: {text}")
+            want("illegal part" not in verdict[0] or "just before, 3 states were" in " ".join(
+                line.strip() for line in text), f"seed {seed}: no states: {text}")
+            count, codes[finding.kind.name] = count + 1, codes[finding.kind.name] + 1
+    want(count > 30 and len(codes) > 4, f"too few findings: {codes}")
+
+
+# A legal log of which the first line claims to come first.
+ANOTHER_ORDER = """2 3 9 price car 7 -> 50
+1 0 5 add car 7 100 50 -> true
+""".splitlines()
+
+
+def holds_other_logs(program, folder):
+    """A legal log in an illegal order is told as one. A text of another format is named, if all its first lines are."""
+    log = folder / "log"
+    log.write_text("".join(f"{line}\n" for line in ANOTHER_ORDER), encoding="ascii")
+    lines = explain(program, log, wanted=0)
+    want(lines[:2] == ["legal calls=2 clients=2", "legal in another order; in the order of its lines: illegal reply 1 -1"]
+         and "that order is wrong; or the runtime is wrong" in " ".join(line.strip() for line in lines), f"{lines}")
+    attempts = subprocess.run([program.path, "load", "--clients", "2", "--attempts"], capture_output=True, text=True,
+                              check=True, timeout=PATIENCE).stdout
+    tasks = subprocess.run([program.path, "tasks", "--tasks", "30"], capture_output=True, text=True, check=True,
+                           timeout=PATIENCE).stdout
+    keys = '0 10 20 put "a" "1" -> ok\n0 21 30 txn if "a" "1" if "b" - then "b" "1" -> true\n1 25 - get "a" -> ?\n'
+    for text, command in ((attempts, "'vacation opaque < LOG'"), (keys, "'kv_judge < LOG'"),
+                          (tasks, "'vacation judge --tasks LOG < HISTORY'")):
+        log.write_text(text, encoding="ascii")
+        lines = explain(program, log)
+        want(len(lines) == 2 and lines[0].startswith("fault ") and command in lines[1], f"{command}: {lines}")
+        first, rest = text.split("\n", 1)
+        log.write_text(f"{first}\n1 2 3 fly -> true\n{rest}", encoding="ascii")
+        lines = explain(program, log)
+        want(len(lines) == 1 and lines[0].startswith("fault "), f"a guess: {lines}")
 
 
 def holds_logs(program, folder):
@@ -410,7 +514,7 @@ def holds_pages(program, folder):
     shown = ROOT / "docs/anomaly"
     lines = explain(program, shown / "postgresql.log", "--blocks", MOST_BLOCKS, "--svg", folder / "picture", "--small",
                     folder / "small", "--work", folder / "work")
-    want(lines[0] == "illegal part 545: lines 66 and 817 contradict each other", f"PostgreSQL's log: {lines}")
+    want(lines[0] == "illegal: lines 66 and 817 contradict each other", f"PostgreSQL's log: {lines}")
     for made, kept in (("picture", "../anomaly.svg"), ("small", "smallest.log"), ("work", "smallest.tasks")):
         want((folder / made).read_bytes() == (shown / kept).read_bytes(), f"docs/anomaly/{kept} is made otherwise now")
 
@@ -429,6 +533,8 @@ def main():
             written = holds_written_parts(program)
             of_verdicts = holds_parts_of_verdicts(program)
             holds_anomalies(program, Path(folder))
+            holds_agreement(program, Path(folder))
+            holds_other_logs(program, Path(folder))
             holds_undetermined(program, Path(folder))
             holds_logs(program, Path(folder))
             holds_pages(program, Path(folder))

@@ -137,7 +137,7 @@ def main() -> int:
             began = time.monotonic()
             _, verdict = program.judge_file(log.path, log.blocks)
             history = Log(log.path).history(verdict)
-            explained, found = findings(history, log.blocks, program, SHOWN)
+            explained, found = findings(history, log.blocks, program, most=SHOWN)
             for finding in explained:
                 print(row(log, history.count, finding), flush=True)
             all_found += explained

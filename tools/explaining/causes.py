@@ -29,7 +29,7 @@ class Fault(Enum):
 @dataclass
 class Cause:
     """A call that went wrong. `what` names its effect that did; `reach` is the time of the next answer that is
-    wrong even so; a call is `raced` if another one changed one of the same rows while it ran."""
+    wrong even so; a call is `raced` if another one changed one of the same entries while it ran."""
     fault: Fault
     call: Call
     what: str
@@ -38,7 +38,7 @@ class Cause:
 
 
 def rivals(call: Call, calls: list[Call]) -> list[Call]:
-    """The calls that may have changed a row that the call changed, at the same time."""
+    """The calls that may have changed an entry that the call changed, at the same time."""
     def entries(one: Call) -> set:
         return set(one.task.items()) | ({one.task.customer} - {None})
 
@@ -79,6 +79,18 @@ def _reach(cause: Cause, repaired: list[Call], window: Part, wrong: Call) -> boo
             return False
         cause.reach = bad.end
     return True
+
+
+def faults_of(few: Part, wrong: Call) -> list[Cause]:
+    """Each fault of a single call under which the few calls are right."""
+    found = []
+    for cause, repaired in _repairs(few.calls, wrong):
+        try:
+            if Search(repaired, few.openings, few.blocks, most=MOST_POSITIONS).first_wrong is None:
+                found.append(cause)
+        except TooManyPositions:
+            continue
+    return found
 
 
 def _repairs(calls: list[Call], wrong: Call) -> Iterator[tuple[Cause, list[Call]]]:

@@ -7,13 +7,15 @@ import os
 import shutil
 import sys
 import tempfile
+import textwrap
 from pathlib import Path
 
 from .findings import Finding, findings
 from .history import History, Log
+from .other_formats import other_format
 from .program import MOST_BLOCKS, NoProgram, Program, opening_tasks
 from .tasks import BadLine
-from .text import explanation
+from .text import WIDTH, explanation
 
 ROOT = Path(__file__).resolve().parent.parent.parent
 LEGAL, ILLEGAL, USAGE, UNDECIDED = 0, 1, 2, 3
@@ -83,11 +85,24 @@ def read_verdict(options: argparse.Namespace) -> tuple[int, list[str]]:
     return statuses.get(verdict[0].split(" ")[0], ILLEGAL), verdict
 
 
+def order_of_lines(verdict: str) -> list[str]:
+    """What the order of the lines of a legal history says, if it is not a legal one itself."""
+    if verdict.startswith("legal"):
+        return []
+    return [f"legal in another order; in the order of its lines: {verdict}",
+            *textwrap.wrap("If the lines claim an order, as that of tm_place, then that order is wrong; or the runtime"
+                           " is wrong, and this history does not show it. If they claim none, as those of a"
+                           " database, this says nothing.", WIDTH, initial_indent="  ", subsequent_indent="  ")]
+
+
 def _explain(options: argparse.Namespace, path: Path) -> int:
     program = Program.find(ROOT, options.program)
     status, verdict = program.judge_file(path, options.blocks) if options.verdict is None else read_verdict(options)
+    if verdict[0].startswith("legal"):
+        print("\n".join([verdict[0], *order_of_lines(program.judge_lines(path, options.blocks))]))
+        return status
     if not verdict[0].startswith(("illegal order", "illegal part", "undecided")):
-        print(verdict[0])
+        print("\n".join([verdict[0], *other_format(verdict[0], path)]))
         return status
     history = Log(path).history(verdict, options.all)
     explained, found = findings(history, options.blocks, program, path)
@@ -96,7 +111,7 @@ def _explain(options: argparse.Namespace, path: Path) -> int:
               + (", and the log has no times." if not history.has_times() else "."))
         return status
     written = _write(options, explained, history, verdict)
-    print(explanation(explained, history, verdict[0], len(found) - 1, written), flush=True)
+    print(explanation(explained, history, verdict, len(found) - 1, written), flush=True)
     return ILLEGAL
 
 

@@ -216,6 +216,11 @@ class Levels:
     def strongest_allowing(self) -> str | None:
         return next((level for level in LEVELS if self.allowed[level]), None)
 
+    def keeps_times(self) -> bool:
+        """Returns whether the strongest level that allows the calls allows them at their times."""
+        strongest = self.strongest_allowing()
+        return strongest is None or self.orders.get(strongest) == IN_TIME
+
     def weakest_forbidding(self) -> str:
         """The level before the first that allows the calls, or that is not known."""
         found = LINEARIZABLE

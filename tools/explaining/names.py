@@ -5,7 +5,7 @@ from __future__ import annotations
 
 from dataclasses import dataclass, field, replace
 
-from .causes import Cause, Fault, rivals
+from .causes import Cause, Fault, faults_of, rivals
 from .levels import COMMITTED, FREE, SERIALIZABLE, SNAPSHOT, STATEMENTS, Levels, Step
 from .model import Row, State, run
 from .reduction import LEAST_STAND_IN, Part, rank
@@ -17,16 +17,24 @@ LONG_FORK, STALE_READ, LOST_WRITE = "long fork", "stale read", "lost write"
 DUPLICATE, DOUBLE_BOOKING, TORN_READ = "duplicate execution", "double booking", "torn read"
 # Adya's codes, and those of Berenson and others.
 LOST_UPDATE_CODES, READ_SKEW_CODES = "P4", "G-single, A5A"
+# The strongest level that allows the anomaly is weaker than this one.
+FORBIDDEN_BY = {WRITE_SKEW: SERIALIZABLE, LOST_UPDATE: SNAPSHOT, READ_SKEW: SNAPSHOT, LONG_FORK: SNAPSHOT,
+                TORN_READ: COMMITTED}
+# Other causes that are told beside the name.
+MOST_OTHER_FAULTS = 2
 
 
 @dataclass(frozen=True)
 class Kind:
-    """The name of an anomaly with its codes, the reason, and the schedule that shows it."""
+    """The name of an anomaly with its codes, the reason, and the schedule that shows it. `hint` tells the author of a
+    transactional memory where to look; `fault` is that of the single call that the name blames."""
     name: str
     codes: str
     why: str
     level: str | None = None
     schedule: list[Step] = field(default_factory=list)
+    hint: str = ""
+    fault: Fault | None = None
 
     def title(self) -> str:
         return f"{self.name} ({self.codes})" if self.codes else self.name
@@ -40,6 +48,8 @@ class DeadEnd:
 
 
 MOST_ENDS, MOST_ORDERS = 24, 400
+# All orders of so many calls are shown; of more calls one for each state that the same calls leave.
+MOST_IN_ALL_ORDERS = 4
 
 
 def dead_ends(part: Part, opening: State) -> list[DeadEnd]:
@@ -54,7 +64,9 @@ def dead_ends(part: Part, opening: State) -> list[DeadEnd]:
         nexts, stuck = _nexts(calls, order, state, part.blocks), []
         for call, reply, after in nexts:
             if call.reply is None and after != state or call.reply == reply:
-                key = (frozenset(map(id, (*order, call))), frozenset(after.items()))
+                placed = map(id, (*order, call))
+                key = (tuple(placed) if len(calls) <= MOST_IN_ALL_ORDERS else frozenset(placed),
+                       frozenset(after.items()))
                 if key not in seen:
                     seen.add(key)
                     todo.append(((*order, call), after))
@@ -129,7 +141,13 @@ def _of_snapshots(schedule: list[Step]) -> Kind:
                      for reader, writer, row in edges[:3])
     codes = "G2, by a phantom" if is_phantom else "G2-item, A5B"
     return Kind(WRITE_SKEW, codes, f"{told[:1].upper()}{told[1:]}. Each call read one snapshot, and they wrote no"
-                " row in common.", SNAPSHOT, schedule)
+                " word or row in common.", SNAPSHOT, schedule,
+                f"the last commit of {_listed(edges)} did not validate its reads.")
+
+
+def _listed(edges: list[tuple[Step, Step, Row]]) -> str:
+    """The readers of some edges."""
+    return " and ".join(dict.fromkeys(str(reader.call.number) for reader, _, _ in edges))
 
 
 def _of_statements(schedule: list[Step], level: str) -> Kind:
@@ -159,12 +177,15 @@ def _named(name: str, step: Step, writer: Step, row: Row, schedule: list[Step], 
     reader, other = step.call.number, writer.call.number
     if name == TORN_READ:
         return Kind(name, "", f"{reader} read between two writes of {other}: {other} had {_done_to(writer, row)}, and"
-                    " had not written the rest.", level, schedule)
+                    " had not written the rest.", level, schedule,
+                    f"{reader} read what {other} had written before its commit, or in the middle of its write-back.")
     if name == LOST_UPDATE:
         return Kind(name, LOST_UPDATE_CODES, f"{reader} read, then {other} {_done_to(writer, row)}, and then {reader}"
-                    " wrote the same row by what it had read before.", level, schedule)
+                    " wrote the same word or row by what it had read before.", level, schedule,
+                    f"{reader} committed, although a word that it had read had changed since.")
     return Kind(name, READ_SKEW_CODES, f"{reader} read both before and after {other} {_done_to(writer, row)}: what"
-                " it saw belongs to two states.", level, schedule)
+                " it saw belongs to two states.", level, schedule,
+                f"{reader} read on after {other}'s commit, and did not validate its earlier reads.")
 
 
 def _torn(schedule: list[Step]) -> list[tuple[Step, Step, Row]]:
@@ -182,41 +203,73 @@ def _torn(schedule: list[Step]) -> list[tuple[Step, Step, Row]]:
 
 # ---- by orders and causes
 
-def _out_of_time(part: Part, wrong: Call, causes: list[Cause]) -> Kind:
+def _out_of_time(part: Part, wrong: Call, levels: Levels, causes: list[Cause]) -> Kind:
     """Calls that are right without their times: an old state was read, or a write was lost."""
     lost = next((cause for cause in causes if cause.fault is Fault.LOST and cause.call.precedes(wrong)), None)
     early = next((cause for cause in causes if cause.fault is Fault.EARLY and cause.call.number == wrong.number), None)
     if lost and (early is None or lost.reach > early.reach or lost.reach == early.reach and lost.raced):
-        return _of_cause(part, wrong, lost)
+        return _of_cause(part, wrong, levels, lost)
     past = sorted((call for call in part.calls if call.precedes(wrong) and not is_read_only(call)),
                   key=lambda call: call.end)
     seen = f", although {past[-1].number} had returned before {wrong.number} began" if past else ""
     own = ", and the client is the same" if past and past[-1].client == wrong.client else ""
-    also = f" Or {lost.what} was lost: no later answer tells." if lost else ""
     if not is_read_only(wrong):
         return Kind(UNKNOWN, "", f"{wrong.number} took effect in a state that was not there while it ran{seen}{own}."
-                    f" Without their times the calls are right.{also}")
-    return Kind(STALE_READ, "", f"{wrong.number} was answered from an older state{seen}{own}. Without their times"
-                f" the calls are right.{also}")
+                    " Without their times these calls are right.", fault=Fault.EARLY)
+    return Kind(STALE_READ, "", f"{wrong.number} was answered from an older state{seen}{own}.", fault=Fault.EARLY)
 
 
-def _of_cause(part: Part, wrong: Call, cause: Cause) -> Kind:
+def _of_cause(part: Part, wrong: Call, levels: Levels, cause: Cause) -> Kind:
+    """The name of the fault of a single call. It has the codes of an anomaly only if a level may allow it."""
     number, at = cause.call.number, wrong.number
+    may_show = levels.allowed[COMMITTED] is not False
     when = f"{number} had returned before {at} began" if cause.call.precedes(wrong) else "they ran at the same time"
     if cause.fault is Fault.LOST:
         raced = rivals(cause.call, part.calls)
         text = f"The answer of {at} is right if {cause.what} is lost; {when}."
-        if raced:
-            return Kind(LOST_UPDATE, LOST_UPDATE_CODES, f"{text} {raced[0].number} wrote the same rows while {number}"
-                        " ran.")
-        return Kind(LOST_WRITE, "", text)
+        if not raced:
+            return Kind(LOST_WRITE, "", text, fault=cause.fault)
+        text += f" {raced[0].number} wrote the same word or row while {number} ran."
+        if levels.allowed[SNAPSHOT]:
+            return Kind(LOST_WRITE, "", text, fault=cause.fault)
+        return Kind(LOST_UPDATE, LOST_UPDATE_CODES if may_show else "", text, fault=cause.fault)
     if cause.fault is Fault.TORN:
-        return Kind(READ_SKEW, READ_SKEW_CODES, f"The answer of {at} is right if {number} chose in one state and"
-                    " booked in another.")
+        text = f"The answer of {at} is right if {number} chose in one state and booked in another."
+        return Kind(READ_SKEW, READ_SKEW_CODES if may_show else "", text, fault=cause.fault)
     if cause.fault is Fault.TWICE:
-        return Kind(DUPLICATE, "", f"The answer of {at} is right if {number} took effect twice; {when}.")
+        return Kind(DUPLICATE, "", f"The answer of {at} is right if {number} took effect twice; {when}.",
+                    fault=cause.fault)
     return Kind(STALE_READ, "", f"The answer of {at} is right if {number} saw an older state than any since {number}"
-                " began.")
+                " began.", fault=cause.fault)
+
+
+def _others(part: Part, wrong: Call, kind: Kind, causes: list[Cause]) -> str:
+    """The other faults of single calls that give the same log, as far as these few calls tell."""
+    if kind.name == UNKNOWN and kind.fault is None:
+        return ""
+    numbers = {call.number for call in part.calls}
+    known = {kind.fault} | ({Fault.LOST} if LOST_UPDATE in kind.title() else set())
+    # A schedule of statements shows how a call chooses in one state and books in another.
+    known |= {Fault.TORN} if kind.schedule and kind.level != SNAPSHOT else set()
+    found: dict[Fault, dict[int, None]] = {}
+    for cause in [*faults_of(part, wrong), *causes]:
+        is_stale = cause.fault is not Fault.EARLY or cause.call.number == wrong.number
+        if cause.fault not in known and cause.call.number in numbers and is_stale:
+            found.setdefault(cause.fault, {})[cause.call.number] = None
+    told = [_fault_in_words(fault, sorted(found[fault])) for fault in Fault if fault in found]
+    return f" Or {', or '.join(told[:MOST_OTHER_FAULTS])}: these calls alone do not tell." if told else ""
+
+
+def _fault_in_words(fault: Fault, numbers: list[int]) -> str:
+    calls = " or ".join(map(str, numbers))
+    match fault:
+        case Fault.LOST:
+            return f"what {calls} wrote was lost"
+        case Fault.TWICE:
+            return f"{calls} took effect twice"
+        case Fault.TORN:
+            return f"{calls} chose in one state and booked in another"
+    return f"{calls} was answered from an older state"
 
 
 def _oversold(ends: list[DeadEnd]) -> list[str]:
@@ -233,11 +286,29 @@ def _oversold(ends: list[DeadEnd]) -> list[str]:
 
 
 def name(part: Part, wrong: Call, levels: Levels, causes: list[Cause], ends: list[DeadEnd]) -> Kind:
-    """The kind of a contradiction, from the levels that allow it, or else from its cause."""
-    kind = _kind(part, wrong, levels, causes)
+    """The kind of a contradiction, from the levels that allow it, or else from its cause, with the other causes that
+    give the same log."""
+    kind = _named_alone(part, wrong, levels, causes, ends)
+    return replace(kind, why=kind.why + _others(part, wrong, kind, causes))
+
+
+def _agreed(kind: Kind, levels: Levels) -> Kind:
+    """The kind, if no level that forbids an anomaly of this name allows the calls; otherwise that of the schedule
+    of the strongest level that allows them, which does not keep their times."""
+    strongest, forbids = levels.strongest_allowing(), FORBIDDEN_BY.get(kind.name)
+    if forbids is None or not levels.allowed[forbids] or strongest not in levels.schedules:
+        return kind
+    if strongest == SNAPSHOT:
+        return _of_snapshots(levels.schedules[SNAPSHOT])
+    return _of_statements(levels.schedules[strongest], strongest)
+
+
+def _named_alone(part: Part, wrong: Call, levels: Levels, causes: list[Cause], ends: list[DeadEnd]) -> Kind:
+    """The kind, without other causes. No level that forbids an anomaly of this name allows the calls."""
+    kind = _agreed(_kind(part, wrong, levels, causes), levels)
     stuck = {call.number for end in ends for call, _ in end.stuck}
     readers = {call.number for call in part.calls if is_read_only(call)}
-    if not levels.allowed[SERIALIZABLE] and len(stuck) > 1 and stuck <= readers:
+    if not levels.allowed[SNAPSHOT] and len(stuck) > 1 and stuck <= readers:
         return Kind(LONG_FORK, "", f"{' and '.join(map(str, sorted(stuck)))} saw the writes of others in different"
                     " orders.")
     oversold = _oversold(ends)
@@ -252,7 +323,7 @@ def _kind(part: Part, wrong: Call, levels: Levels, causes: list[Cause]) -> Kind:
     schedules = {level: steps for level, steps in levels.schedules.items() if levels.orders[level] != FREE}
     impossible = next(filter(None, map(_impossible, part.calls)), None)
     if levels.allowed[SERIALIZABLE]:
-        return _out_of_time(part, wrong, causes)
+        return _out_of_time(part, wrong, levels, causes)
     if SNAPSHOT in schedules:
         return _of_snapshots(schedules[SNAPSHOT])
     for level in (COMMITTED, STATEMENTS):
@@ -260,8 +331,10 @@ def _kind(part: Part, wrong: Call, levels: Levels, causes: list[Cause]) -> Kind:
             return _of_statements(schedules[level], level)
     if impossible:
         return Kind(UNKNOWN, "", f"No state gives such a reply: {impossible}.")
+    # Causes are not looked for before a contradiction that only the whole history shows.
+    causes = causes or (faults_of(part, wrong) if part.blocks is not None else [])
     if causes:
-        return _of_cause(part, wrong, causes[0])
+        return _of_cause(part, wrong, levels, causes[0])
     return Kind(UNKNOWN, "", "No single call that was lost, ran twice or saw an older state makes the answer right.")
 
 

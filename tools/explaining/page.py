@@ -14,8 +14,9 @@ from .picture import picture, round_times
 from .program import MOST_BLOCKS
 from .tasks import Call
 from .timeline import Timeline
-from .words import (Told, changes_in_words, duration, extremes, headline, is_verdict, level_words, merged, not_proved,
-                    proved, state_in_words, step_in_words)
+from .words import (Told, alone, changes_in_words, duration, extremes, headline, is_decided, level_words, merged,
+                    not_proved, proved, proved_parts, schedule_heading, state_in_words, step_in_words,
+                    verdict_in_words)
 
 TEMPLATE = Path(__file__).resolve().parent / "page.html"
 MOST_ORDERS, MOST_TICKS = 6, 8
@@ -24,7 +25,7 @@ MEANINGS = {
     "linearizable": "one after the other, each call between its begin and its end",
     "sequentially consistent": "one after the other, each client's calls in their order",
     "serializable": "one after the other, in any order",
-    "snapshot isolation": "each call reads one snapshot; of two that write the same row at a time one fails",
+    "snapshot isolation": "each call reads one snapshot; of two that write the same word or row at a time one fails",
     "read committed": "each statement reads what is committed when it starts",
     "single statements": "each statement takes effect by itself, without transactions"}
 
@@ -45,12 +46,16 @@ class Article:
         text = f"{headline(self.finding)[:1].upper()}{headline(self.finding)[1:]}"
         return "\n".join([
             f'<article id="finding-{self.place}" aria-label="{escape(kind.title(), quote=True)}">',
-            f"<h2>{escape(kind.title())}</h2><p>{escape(text)}. {escape(kind.why)}</p>",
+            f"<h2>{escape(kind.title())}</h2><p>{escape(text)}. {escape(kind.why)}{self._hint()}</p>",
             self._lanes(), self._calls(), self._orders(), self._levels(), self._schedule(), self._smallest(),
             self._claims(), "</article>"])
 
     def _told(self, call: Call) -> Told:
         return Told(call, self.timeline.whole(call))
+
+    def _hint(self) -> str:
+        hint = self.finding.kind.hint
+        return f" In a transactional memory: {escape(hint)}" if hint else ""
 
     # ---- lanes
 
@@ -151,14 +156,16 @@ class Article:
                        f"</td><td class='soft'>{MEANINGS[level]}</td></tr>" for level, answer, sure in
                        level_words(self.finding))
         text = extremes(self.finding)
-        return f"<h3>Which levels allow it</h3><p>{text[:1].upper()}{text[1:]}.</p><table>{rows}</table>"
+        return (f"<h3>Which levels allow it</h3><p>{text[:1].upper()}{text[1:]}. This is about"
+                f" {escape(alone(self.finding))}.</p><table>{rows}</table>")
 
     def _schedule(self) -> str:
         steps = merged(self.finding.kind.schedule)
         if not steps:
             return ""
         lines = [f"<li><b>{step.call.number}</b> {escape(step_in_words(step))}</li>" for step in steps]
-        return f"<h3>How {self.finding.kind.level} could have run them</h3>" + _items(lines, "ol")
+        heading = schedule_heading(self.finding)
+        return f"<h3>{heading[:1].upper()}{heading[1:]}</h3>" + _items(lines, "ol")
 
     def _smallest(self) -> str:
         name = f"small-{self.place}"
@@ -173,13 +180,13 @@ class Article:
         customers = [f"customer {one}" for one in sorted(self.finding.found.customers)]
         items = [f"{kind} {one}" for kind, one in sorted(self.finding.found.items)]
         scope = ", ".join([*customers, *items[:6]] + ([f"{len(items) - 6} more items"] if len(items) > 6 else []))
-        undecided = "" if is_verdict(self.verdict) else (" The program did not decide about the whole log; an illegal"
-                                                        " part shows that the log is illegal.")
         return ("<h3>What is proved, and what is not</h3>" + _items([
             f"<li><b>Proved</b> to be illegal, by the program's verdict on each:"
-            f" {escape(proved(self.finding, self.history, self.verdict))}.{undecided}</li>",
+            f" {escape(proved(self.finding, self.history, self.verdict))}.</li>",
+            f"<li><b>Proved</b> to be illegal besides: {escape('; '.join(proved_parts(self.finding)))}.</li>",
             f"<li>The part is what the calls say about {escape(scope or 'everything')}.</li>",
-            f"<li><b>Not proved</b>: {escape(not_proved(self.finding))}.</li>"]))
+            f"<li><b>Not proved</b>: {escape(not_proved(self.finding, self.verdict))}; and that a"
+            " legal log has a legal part as the script takes it (argued and tested).</li>"]))
 
 
 def _strip(explained: list[Finding], history: History) -> str:
@@ -205,11 +212,9 @@ def page(explained: list[Finding], history: History, verdict: list[str], name: s
              for place, one in enumerate(explained, 1)]
     about = f"{history.count:,} calls" + (f" of {clients} clients" if history.is_whole else "")
     title = f"{first.kind.title()}: {headline(first)}"
-    body = (f"<h1>Why this history is illegal</h1><p><code>{escape(Path(name).name)}</code>: {about}. The program says"
-            f" <code>{escape(verdict[0])}</code>: no order of the calls, each between its begin and its end, gives"
-            f" their answers.</p>" if is_verdict(verdict[0]) else
-            f"<h1>Why this history is illegal</h1><p><code>{escape(Path(name).name)}</code>: {about}. The program says"
-            f" <code>{escape(verdict[0])}</code>, but a part of the history is illegal.</p>")
+    body = (f"<h1>Why this history is illegal</h1><p><code>{escape(Path(name).name)}</code>: {about}. The program's"
+            f" verdict on it: {escape(verdict_in_words(verdict))}."
+            f"{'' if is_decided(verdict[0]) else ' A part of the history is illegal, so the history is.'}</p>")
     body += _strip(explained, history) + (f"<nav aria-label='Contradictions'>{_items(links, 'ol')}</nav>"
                                           if len(explained) > 1 else "")
     body += "\n".join(Article(place, one, history, verdict[0]).html() for place, one in enumerate(explained, 1))

@@ -136,7 +136,8 @@ class Picture:
         levels = self.finding.levels
         strongest = levels.strongest_allowing()
         text = f"{levels.weakest_forbidding()} forbids these calls"
-        self.text(MARGIN, y, f"{text}; {strongest} allows them." if strongest else f"{text}.")
+        when = "" if levels.keeps_times() else ", without their times"
+        self.text(MARGIN, y, f"{text}; {strongest} allows them{when}." if strongest else f"{text}.")
         return y + LINE
 
 

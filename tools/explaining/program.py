@@ -54,6 +54,13 @@ class Program:
             raise NoProgram(f"{self.path} gave no verdict (status {done.returncode}): {done.stderr.strip()}")
         return done.returncode, done.stdout.splitlines()
 
+    def judge_lines(self, path: Path, blocks: int) -> str:
+        """The first line of the verdict on a log in the order of its lines."""
+        with open(path, "rb") as log:
+            done = subprocess.run([self.path, "judge", "--blocks", str(blocks)], stdin=log, capture_output=True,
+                                  text=True, check=False)
+        return done.stdout.partition("\n")[0] or f"status {done.returncode}"
+
     def part(self, path: Path, customers: Iterable[int], items: Iterable[Item]) -> list[str] | None:
         """The lines of the part of a log on a scope, or none if a call has no part or the scope is too large."""
         customers, items = sorted(customers), sorted(items)

@@ -6,13 +6,14 @@ from dataclasses import dataclass
 
 from .findings import Finding
 from .history import History
-from .levels import LEVELS, Step
+from .levels import IN_TIME, LEVELS, STATEMENTS, Step
 from .model import Row, State, booked_item, is_item
 from .names import row_text
 from .reduction import LEAST_STAND_IN, is_stand_in, rank
 from .tasks import KINDS, Call, Item, Task, is_probe, item_text, read_trip, read_update
 
 MOST_ROWS = 3
+ENTRIES_IN_WORDS = 3
 
 
 def duration(nanoseconds: int) -> str:
@@ -159,18 +160,20 @@ def changes_in_words(finding: Finding, before: State, after: State) -> list[str]
 
 # ---- schedules
 
-def _rows_in_words(rows: list[Row]) -> str:
+def _rows_in_words(rows: list[Row], most: int | None = None) -> str:
     texts = list(dict.fromkeys(map(row_text, rows)))
-    return ", ".join(texts if len(texts) <= MOST_ROWS else [*texts[:MOST_ROWS], f"{len(texts) - MOST_ROWS} more"])
+    if most is None or len(texts) <= most + 1:
+        return ", ".join(texts)
+    return f"{', '.join(texts[:most])}, {len(texts) - most} more"
 
 
 def step_in_words(step: Step) -> str:
-    """A step of a schedule, without rows that say nothing to a reader."""
+    """A step of a schedule, without rows that say nothing to a reader: some of what it reads, all that it writes."""
     reads = [row for row in sorted(step.reads, key=rank) if not is_stand_in(row)
              and not (row[0] == "booking" and ("bookings", row[1]) in step.reads)]
     booked: set[Item] = {booked_item(row) for row in step.written if row[0] == "booking"}
     verbs = [(row, verb) for row, verb in step.verbs if not is_stand_in(row) and row not in booked]
-    parts = [f"reads {_rows_in_words(reads)}"] if reads else []
+    parts = [f"reads {_rows_in_words(reads, MOST_ROWS)}"] if reads else []
     for verb in ("makes", "changes", "removes"):
         rows = [row for row, one in verbs if one == verb]
         parts += [f"{verb} {_rows_in_words(rows)}"] if rows else []
@@ -204,25 +207,69 @@ def extremes(finding: Finding) -> str:
     return f"weakest level that forbids them: {finding.levels.weakest_forbidding()}; {allowing}"
 
 
+def alone(finding: Finding) -> str:
+    """What the answers of the levels are about."""
+    return "these calls alone" + ("" if finding.levels.keeps_times() else ", without their times")
+
+
+def schedule_heading(finding: Finding) -> str:
+    """The heading of a schedule."""
+    kind = finding.kind
+    is_in_time = finding.levels.orders.get(kind.level) == IN_TIME
+    return (f"how it can happen {'with' if kind.level == STATEMENTS else 'under'} {kind.level}"
+            f"{'' if is_in_time else ', without their times'}")
+
+
 def proved(finding: Finding, history: History, verdict: str) -> str:
     """What the proved program has confirmed."""
-    part, few = len(finding.found.part.calls), len(finding.few.calls)
-    each = "" if len(finding.few_verdicts) == 1 else f" in each of {len(finding.few_verdicts)} cases"
-    whole = f"the log of {history.count:,} calls, " if is_verdict(verdict) else ""
-    own = "" if finding.proved_calls is None else (
-        f"its part that 'vacation part' writes ({finding.proved_calls:,} calls; so the log is illegal), ")
-    return (f"{whole}{own}the script's part of {part:,} call{'s'[:part != 1]}, and the {few} call{'s'[:few != 1]}"
-            f" above after the state before them{each}")
+    few = len(finding.few.calls)
+    each = "" if len(finding.few_verdicts) == 1 else f", in each of {len(finding.few_verdicts)} cases"
+    log = ""
+    if is_decided(verdict):
+        log = f"the log of {history.count:,} calls, and "
+    elif finding.proved_calls is not None:
+        log = f"a part of the log ({finding.proved_calls:,} calls), so the log is illegal; and "
+    return f"{log}the {few} call{'s'[:few != 1]} above after the state before them{each}"
 
 
-def is_verdict(verdict: str) -> bool:
+def proved_parts(finding: Finding) -> list[str]:
+    """The parts of the log that the proved program calls illegal."""
+    part = len(finding.found.part.calls)
+    own = [] if finding.proved_calls is None else [
+        f"the part of the log that 'vacation part' writes ({finding.proved_calls:,} calls), so the log is illegal"]
+    return [*own, f"the part of the log that the script takes ({part:,} call{'s'[:part != 1]})"]
+
+
+def is_decided(verdict: str) -> bool:
     """Returns whether the program has decided about the whole log."""
     return verdict.startswith("illegal")
 
 
-def not_proved(finding: Finding) -> str:
+def not_proved(finding: Finding, verdict: str) -> str:
     """What the proved program has not confirmed."""
-    parts = "that a legal log has legal parts" if finding.proved_calls is None else (
-        "that a legal log has a legal part as the script takes it")
-    return (f"{parts} (argued and tested), that the state before is the only possible one, the levels below"
-            " serializable, the schedule and the name")
+    is_known = is_decided(verdict) or finding.proved_calls is not None
+    log = "" if is_known else "that the log is illegal (argued and tested), "
+    return f"{log}the state before them, the levels below serializable, the schedule, the name"
+
+
+def verdict_in_words(verdict: list[str]) -> str:
+    """The program's verdict on the whole log, with its meaning."""
+    words = verdict[0].split(" ")
+    told = " ".join(words[:3])
+    states = next((line.split(" ")[1] for line in verdict[1:] if line.startswith("states ")), "1")
+    if words[:2] == ["illegal", "part"]:
+        before = "" if states == "1" else f"; just before, {states} states were possible"
+        return (f"{told}: when line {words[2]} ended, no order was left of what the calls say of"
+                f" {_scope_in_words(words[3:])}{before} (the program's own search, apart from the calls above)")
+    if words[:2] == ["illegal", "order"]:
+        return (f"{told}: no order of all calls is right, and at most {words[2]} of those that ended come one after"
+                " the other with right answers (the program's own search, apart from the calls above)")
+    return f"{told}: the program's own search of the whole log came to no end"
+
+
+def _scope_in_words(words: list[str]) -> str:
+    """The customers and items of a scope."""
+    names = [f"{one} {number}" for one, number in zip(words[::2], words[1::2])]
+    if len(names) > ENTRIES_IN_WORDS:
+        return f"{', '.join(names[:ENTRIES_IN_WORDS])} and {len(names) - ENTRIES_IN_WORDS} more"
+    return listed(names) if names else "some customers and items"
