@@ -377,11 +377,11 @@ int run(const Options& options, const char* name)
 // The whole program of a peer. `Jittery` is the same runtime with its steps drawn apart, where it
 // tells them (watch.hpp); else they are so between the reads and writes of a task alone.
 template <class Runtime, class Jittery = Runtime>
-int run_peer(int count, char** words)
+int run_peer(int count, char** words, const Options& defaults = {})
 {
-    const auto options = read_options(count, words);
+    const auto options = read_options(count, words, defaults);
     if (!options) {
-        std::fprintf(stderr, USAGE, words[0]);
+        std::fprintf(stderr, USAGE, words[0], defaults.operand);
         return 2;
     }
     int status = 1;

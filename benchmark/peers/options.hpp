@@ -26,13 +26,15 @@ struct Options {
     // The drawn tasks are written, and no more is done.
     bool print = false;
     Settings drawn;
+    // What the usage names between the program and its options.
+    const char* operand = "";
 
     // The accesses of attempts are looked at, except in runs that are measured.
     bool is_watched() const { return history || attempts || jitter != 0; }
 };
 
 constexpr char USAGE[] =
-    "usage: %s [--blocks N] [--tries N] [--patience SECONDS] [--jitter SEED]\n"
+    "usage: %s%s [--blocks N] [--tries N] [--patience SECONDS] [--jitter SEED]\n"
     "    [--history | --attempts] < TASKS\n"
     "or, with tasks that each client draws, or that are only written, in place of TASKS:\n"
     "    .. --draw | --print [--clients N] [--tasks N] [--items N] [--asks N] [--reads P]\n"
@@ -118,9 +120,8 @@ inline bool take_flag(Options& options, std::string_view name)
     return false;
 }
 
-inline std::optional<Options> read_options(int count, char** words)
+inline std::optional<Options> read_options(int count, char** words, Options options)
 {
-    Options options;
     bool has_drawn = false;
     for (int i = 1; i < count; ++i) {
         const std::string_view name = words[i];

@@ -1,5 +1,6 @@
 // A peer whose runtime is a shared object with the functions of include/vacation_tm.h:
-// `peer OBJECT [OPTIONS]`, with the options of all peers.
+// `peer OBJECT [OPTIONS]`, with the options of all peers. If no `--tries` is given, a task has so
+// many attempts that none is given up, and the history has the whole workload.
 #include "attempt_runtime.hpp"
 #include "driver.hpp"
 #include "vacation_tm.h"
@@ -159,13 +160,16 @@ extern "C" void vacation_step()
 int main(int count, char** words)
 {
     using namespace vacation;
+    Options defaults;
+    defaults.tries = 1'000'000;
+    defaults.operand = " OBJECT";
     if (count < 2 || words[1][0] == '-') {
-        std::fprintf(stderr, "usage: %s OBJECT [OPTIONS]\n", words[0]);
+        std::fprintf(stderr, USAGE, words[0], defaults.operand);
         return 2;
     }
     object_name = words[1];
     for (int i = 2; i < count; ++i)
         is_jittered |= std::string_view(words[i]) == "--jitter";
     words[1] = words[0];
-    return run_peer<AttemptRuntime<ObjectAttempt>>(count - 1, words + 1);
+    return run_peer<AttemptRuntime<ObjectAttempt>>(count - 1, words + 1, defaults);
 }

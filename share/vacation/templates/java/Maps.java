@@ -1,28 +1,37 @@
 // Threads over a lock-free map, and the history of their calls for the program kv_judge:
 //
 //     javac -d . share/vacation/templates/java/Maps.java
-//     java Maps > history
-//     kv_judge < history
+//     java Maps > history && ./kv_judge < history
 //
 // The map is the library's ConcurrentHashMap. With --mistake its replace and remove look first and write then, so that
-// two threads can both replace one value: the judge shall find that. For another map change `map`. The arguments are
-// the numbers of threads, of calls of each thread, and of keys.
+// two threads can both replace one value: the judge shall find that. For another map change `map`, and call
+// `Maps.pause()` between its steps: without pauses threads seldom meet within a call. The arguments are the numbers of
+// threads, of calls of each thread, and of keys.
 
 import java.util.Random;
 import java.util.concurrent.ConcurrentHashMap;
 import java.util.concurrent.ConcurrentMap;
+import java.util.concurrent.ThreadLocalRandom;
 
 public class Maps extends Thread {
+    /** Between two steps of a map: now and then the processor goes to another thread. */
+    static void pause() {
+        if (ThreadLocalRandom.current().nextInt(16) == 0) Thread.yield();
+    }
+
     /** A map whose conditional writes are not atomic. */
     static class Mistaken extends ConcurrentHashMap<Integer, Integer> {
         @Override public boolean replace(Integer key, Integer old, Integer value) {
             if (!old.equals(get(key))) return false;
+            pause();
             put(key, value);
             return true;
         }
 
         @Override public boolean remove(Object key, Object old) {
-            return old.equals(get(key)) && remove(key) != null;
+            if (!old.equals(get(key))) return false;
+            pause();
+            return remove(key) != null;
         }
     }
 
