@@ -12,8 +12,20 @@
  *     puts(vacation_reply(body));
  *
  * An attempt that met a conflict is given up without a word: `vacation_start` begins the next one.
- * The library is libvacation_body.so. A body is used by one thread at a time; it may be another one
- * for each attempt.
+ * The library is built/libvacation_body.so after `benchmark/build built --interface`. Only one thread
+ * at a time may use a body; from one attempt to the next the thread may change.
+ *
+ * What the program must do besides (share/vacation/templates/python/tl2.py does all of it):
+ *
+ * - Client 0 does its tasks alone, then all other clients do theirs side by side.
+ * - A line of a history is written as its call ends. A watchdog ends a run in which no call ends for a
+ *   minute, with a status that is not 0. Then come lines `CLIENT BEGIN - LINE -> ?`, one for each call
+ *   that was running: another client may have seen its effect.
+ * - A text of attempts begins with the first words: one line `0 0 0 commit w A V w A V ..`, with
+ *   each word of `vacation_words` that is not 0. Without this line the first read of such a word is
+ *   an `illegal read`.
+ * - A memory that is wrong can leave words that make each later attempt VACATION_LOST. So a client
+ *   ends after three lost attempts in turn, as in `peer`, or the watchdog ends the run.
  */
 #ifndef VACATION_BODY_H
 #define VACATION_BODY_H
@@ -28,13 +40,14 @@ enum { VACATION_DONE, VACATION_READ, VACATION_WRITE, VACATION_LOST };
 
 struct vacation_body;
 
-/* Makes what a client needs; its number says from which free list its new entries come. NULL if there
- * is no memory. */
+/* Makes the body of a client. `client` is its number in the tasks, from which follows the free list
+ * that gives blocks to its new entries. Returns NULL if there is no memory. */
 struct vacation_body *vacation_body_new(unsigned client);
 void vacation_body_free(struct vacation_body *);
 
 /* Begins an attempt at the task of this line, as `vacation tasks` writes it behind the client's
- * number; NULL is the line of the last call. Returns 0, or 1 if the line is no task. */
+ * number. If the line is NULL, the task is that of the call of `vacation_start` before. Returns 0, or 1
+ * if the line is no task. */
 int vacation_start(struct vacation_body *, const char *line);
 
 /* Goes on with the attempt, to its next access or its end. `answer` is the word that the read before

@@ -30,7 +30,7 @@ TABLE = {
     "c/tl2.c": (["cc"], ("cc -O2", "cc -O2 -DMISTAKE=1")),
     "c/stamp.c": (["cc"], ("cc -O2", "cc -O2 -DMISTAKE=1")),
     "rust/norec.rs": (["rustc"], ("rustc", "rustc --cfg mistake")),
-    "go/norec.go": (["go"], ("peer ", "MISTAKE=1 peer ")),
+    "go/norec.go": (["go"], ("built/peer ", "MISTAKE=1 built/peer ")),
     "haskell/Stm.hs": (["ghc"], ("./stm", "./stm --mistake --patience 5")),
     "python/tl2.py": (["python3"], ("< work", "--mistake --patience 5 < work")),
 }
@@ -74,7 +74,8 @@ def skip(text):
 
 
 def head_commands(template):
-    """The commands that are indented in the comment at the head of a template, on one line each."""
+    """The commands that are indented in the comment at the head of a template, on one line each: a line
+    that ends by `\\` or `&&` goes on in the next one. That which builds what the folder has is left out."""
     commands, held = [], ""
     for line in (TEMPLATES / template).read_text(encoding="utf-8").splitlines()[:24]:
         found = re.match(r"(?: \*|//|--|)(?:     ?|\t)(\s*\S.*)$", line)
@@ -84,7 +85,10 @@ def head_commands(template):
         if held.endswith("\\"):
             held = held[:-1]
             continue
-        if held.split()[0] in (*COMPILERS, "vacation", "peer", "python3", "./stamp", "./stm"):
+        if held.endswith("&&"):
+            held += " "
+            continue
+        if held.split()[0] in (*COMPILERS, "./vacation", "built/peer", "python3", "./stamp", "./stm"):
             commands.append(held)
         held = ""
     return commands
@@ -98,8 +102,8 @@ class Folder:
         for name in ("include", "share"):
             (self.path / name).symlink_to(ROOT / name)
         (self.path / "vacation").symlink_to(program)
-        self.environment = {**os.environ, "PATH": f"{path}:{os.environ['PATH']}", "PWD": str(path),
-                            "PYTHONDONTWRITEBYTECODE": "1", "GOCACHE": str(self.path / "go-cache")}
+        self.environment = {**os.environ, "PWD": str(path), "PYTHONDONTWRITEBYTECODE": "1",
+                            "GOCACHE": str(self.path / "go-cache")}
 
     def run(self, command):
         """What a command of the shell writes, and its status."""
@@ -115,7 +119,7 @@ def try_commands(folder, template, commands):
     """All commands of the head, as they stand."""
     for command in commands:
         done = folder.run(command)
-        last = command.rsplit("|", 1)[-1].split()
+        last = command.rsplit("&&", 1)[-1].split()
         good = "legal calls=4032 clients=5\n" if "judge" in last else "opaque attempts=" if "opaque" in last else ""
         wants_words = good and not done.stdout.startswith(good)
         if wants_words or not good and (done.returncode != 0 or "warning" in done.stderr):
@@ -125,13 +129,14 @@ def try_commands(folder, template, commands):
 
 
 def try_mistake(folder, template, commands, mistake):
-    """The same with the mistake, until the judge finds it."""
+    """The same with the mistake, until the judge finds it. A run that hung or crashed is judged, too."""
     old, new = mistake
     wrong = [command.replace(old, new, 1) if command.startswith(old) or not is_build(command) else command
              for command in commands if "opaque" not in command]
     for command in filter(is_build, wrong):
         folder.run(command)
-    runs = [command for command in wrong if not is_build(command) and "vacation tasks" not in command]
+    runs = [command.replace(" && ", "; ") for command in wrong
+            if not is_build(command) and "vacation tasks" not in command]
     for number in range(1, MOST_RUNS + 1):
         for command in runs:
             done = folder.run(command.replace("--jitter 1", f"--jitter {number}"))
@@ -143,11 +148,11 @@ def try_mistake(folder, template, commands, mistake):
 
 def try_faults(folder, template, commands):
     """A crash and a standstill of a harness: both are told by the status, and the log is judged."""
-    command = next(command for command in commands if command.endswith("> log"))
+    command = next(command.split(" && ")[0] for command in commands if "> log && " in command)
     for options, is_fault in (("--crash-at 50", lambda status: status not in (0, 3)),
                               ("--hang-at 50 --patience 2", lambda status: status == 3)):
         done = folder.run(command.replace("< work", f"{options} < work"))
-        judged = folder.run("vacation judge --any-order < log").stdout
+        judged = folder.run("./vacation judge --any-order < log").stdout
         calls = int((re.findall(r"^legal calls=(\d+) ", judged) or ["0"])[0])
         want(is_fault(done.returncode) and calls >= 82,
              f"{template} {options}: status {done.returncode}, the judge says {judged!r}")
@@ -159,9 +164,9 @@ def try_faulty_object(folder):
     folder.run("cc -fPIC -shared -I include faulty.c -o faulty.so")
     for environment, status, runs in (("CRASH=1", 1, CRASHES), ("", 3, 1)):
         for _ in range(runs):
-            done = folder.run(f"{environment} peer ./faulty.so --history --patience 2 < work > log")
+            done = folder.run(f"{environment} built/peer ./faulty.so --history --patience 2 < work > log")
             is_cut_short = (folder.path / "log").read_bytes().endswith(b" -> ?\n")
-            judged = folder.run("vacation judge --any-order < log").stdout
+            judged = folder.run("./vacation judge --any-order < log").stdout
             want(done.returncode == status and is_cut_short and judged.startswith("legal calls="),
                  f"a faulty object {environment}: status {done.returncode}, the judge says {judged!r}")
 
@@ -196,11 +201,11 @@ def main():
     want(found <= tried, f"templates that nothing tries: {found - tried}")
     with tempfile.TemporaryDirectory(prefix="vacation-templates-") as name:
         folder = Folder(name, program)
-        built = subprocess.run([ROOT / "benchmark/build", name, "--interface"], check=False,
+        built = subprocess.run([ROOT / "benchmark/build", folder.path / "built", "--interface"], check=False,
                                env={**os.environ, "CXXFLAGS": os.environ.get("CXXFLAGS", "-O1")})
         if built.returncode != 0:
             sys.exit("templates: the program that runs objects could not be built")
-        folder.run("vacation tasks --tasks 1000 --items 8 > work")
+        folder.run("./vacation tasks --tasks 1000 --items 8 > work")
         for template, (needed, mistake) in TABLE.items():
             if template in found:
                 try_template(folder, template, needed, mistake)

@@ -1,15 +1,16 @@
 /* A memory with STAMP's macros under the tasks of the reservation system. By default the macros are
  * those of include/tm.h, which stand over the C interface, here over the example tl2.c:
  *
+ *     benchmark/build built --interface
  *     cc -O2 -pthread -I include share/vacation/templates/c/stamp.c share/vacation/templates/c/tl2.c \
- *         ./libvacation_body.so -Wl,-rpath,$PWD -o stamp
- *     vacation tasks --tasks 1000 --items 8 > work
- *     ./stamp < work > log
- *     vacation judge --any-order --tasks work < log
+ *         -L built -lvacation_body -Wl,-rpath,$PWD/built -o stamp
+ *     ./vacation tasks --tasks 1000 --items 8 > work
+ *     ./stamp < work > log && ./vacation judge --any-order --tasks work < log
  *
- * (`libvacation_body.so` is built by `benchmark/build FOLDER`.) A memory of your own that comes with a
- * tm.h: put its folder before `include`, and the calls that start it into `main`. Each line of the log
- * is written as its call ends; a process in which no call ends for 60 seconds is ended.
+ * (`&&`, because a run that hung or crashed can end as `legal`: vacation_tm.h.) A memory of your own
+ * that comes with a tm.h: put its folder before `include`, and the calls that start it into `main`.
+ * Each line of the log is written as its call ends; a process in which no call ends for 60 seconds is
+ * ended.
  */
 #include "tm.h"
 #include "vacation_body.h"

@@ -2,9 +2,12 @@
  *
  *     cc -O2 -fPIC -shared -I include -I $TINYSTM/include share/vacation/templates/c/tinystm.c \
  *         -L $TINYSTM/lib -lstm -o tinystm.so
- *     peer ./tinystm.so --history --jitter 1 --tries 1000000 < work | vacation judge --any-order --tasks work
+ *     ./vacation tasks --tasks 1000 --items 8 > work
+ *     built/peer ./tinystm.so --history --jitter 1 < work > log &&
+ *         ./vacation judge --any-order --tasks work < log
  *
- * The library must be built as position-independent code (-fPIC). It jumps out of an attempt by a
+ * (`benchmark/build built --interface` builds `peer`; `&&`, because a run that hung or crashed can end
+ * as `legal`: vacation_tm.h.) The library must be built as position-independent code (-fPIC). It jumps out of an attempt by a
  * buffer of its own, into which the driver's is copied, and begins the next attempt itself. It shows
  * no version, so the order of the calls is looked for. The mistake of -DMISTAKE=1: words of odd
  * addresses are read behind the library's back.

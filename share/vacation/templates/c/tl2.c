@@ -1,13 +1,14 @@
 /* A small TL2 over the C interface, as an example and as a beginning of your own:
  *
+ *     benchmark/build built --interface
  *     cc -O2 -fPIC -shared -I include share/vacation/templates/c/tl2.c -o tl2.so
- *     vacation tasks --tasks 1000 --items 8 > work
- *     peer ./tl2.so --history --jitter 1 --tries 1000000 < work | vacation judge --tasks work
- *     peer ./tl2.so --attempts --jitter 1 --tries 1000000 < work | vacation opaque
+ *     ./vacation tasks --tasks 1000 --items 8 > work
+ *     built/peer ./tl2.so --attempts --jitter 1 < work > attempts && ./vacation opaque < attempts
+ *     built/peer ./tl2.so --history --jitter 1 < work > log && ./vacation judge --tasks work < log
  *
- * (`peer` is built by `benchmark/build FOLDER`.) A conflict jumps out of the attempt, as TinySTM does;
- * returning 1 from tm_read, tm_write or tm_commit would do, too. With -DMISTAKE=1 a commit does not
- * validate what was read: the judge shall find that.
+ * (`&&`, because a run that hung or crashed can end as `legal`: vacation_tm.h.) A conflict jumps out of
+ * the attempt, as TinySTM does; returning 1 from tm_read, tm_write or tm_commit would do, too. With
+ * -DMISTAKE=1 a commit does not validate what was read: the judge shall find that.
  */
 #include "vacation_tm.h"
 

@@ -1,13 +1,14 @@
 // NOrec in Go over the C interface (include/vacation_tm.h):
 //
+//	benchmark/build built --interface
 //	go build -buildmode=c-shared -o norec_go.so share/vacation/templates/go/norec.go
-//	vacation tasks --tasks 1000 --items 8 > work
-//	peer ./norec_go.so --history --jitter 1 --tries 1000000 < work | vacation judge --tasks work
-//	peer ./norec_go.so --attempts --jitter 1 --tries 1000000 < work | vacation opaque
+//	./vacation tasks --tasks 1000 --items 8 > work
+//	built/peer ./norec_go.so --attempts --jitter 1 < work > attempts && ./vacation opaque < attempts
+//	built/peer ./norec_go.so --history --jitter 1 < work > log && ./vacation judge --tasks work < log
 //
-// (`peer` is built by `benchmark/build FOLDER`.) A call from C to Go takes some hundred nanoseconds: enough to judge, not to measure. With MISTAKE=1 in
-// the environment an attempt that finds the sequence changed does not compare what it has read: the
-// judge shall find that.
+// (`&&`, because a run that hung or crashed can end as `legal`: vacation_tm.h.) A call from C to Go
+// takes some hundred nanoseconds: enough to judge, not to measure. With MISTAKE=1 in the environment an
+// attempt that finds the sequence changed does not compare what it has read: the judge shall find that.
 package main
 
 // #include <stdint.h>

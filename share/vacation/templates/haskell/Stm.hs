@@ -1,18 +1,18 @@
 -- GHC's STM over the pull form of the tasks (include/vacation_body.h):
 --
+--     benchmark/build built --interface
 --     ghc -O1 -threaded -fno-omit-yields -outputdir out -o stm share/vacation/templates/haskell/Stm.hs \
---         -optl-Wl,-rpath,$PWD ./libvacation_body.so
---     vacation tasks --tasks 1000 --items 8 > work
---     ./stm +RTS -N2 -RTS < work > log
---     vacation judge --any-order --tasks work < log
+--         -optl-Wl,-rpath,$PWD built/libvacation_body.so
+--     ./vacation tasks --tasks 1000 --items 8 > work
+--     ./stm +RTS -N2 -RTS < work > log && ./vacation judge --any-order --tasks work < log
 --
--- (`libvacation_body.so` is built by `benchmark/build FOLDER`.) Without -fno-omit-yields a doomed
+-- (`&&`, because a run that hung or crashed can end as `legal`.) Without -fno-omit-yields a doomed
 -- transaction that does not allocate is never stopped. Each line of the log is written as its call ends,
 -- so that a run which crashes or stands still leaves a log, too. With --mistake some words are read
 -- without the transaction's knowledge: the judge shall find that. GHC does not show its attempts, so
 -- only calls are logged. A call that a crash cuts short has no line, though others may have seen its
--- effect: the log of a crash may be illegal for that alone. Other options: --patience SECONDS, and, to test this file, --crash-at N and
--- --hang-at N.
+-- effect: the log of a crash may be illegal for that alone. Other options: --patience SECONDS, and, to
+-- test this file, --crash-at N and --hang-at N.
 {-# LANGUAGE ForeignFunctionInterface #-}
 {-# LANGUAGE OverloadedStrings #-}
 module Main (main) where

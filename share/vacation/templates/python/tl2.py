@@ -1,11 +1,12 @@
 #!/usr/bin/env python3
 """A small TL2 in Python over the pull form of the tasks (include/vacation_body.h):
 
-    vacation tasks --tasks 1000 --items 8 > work
-    python3 share/vacation/templates/python/tl2.py ./libvacation_body.so < work > log
-    vacation judge --any-order --tasks work < log
+    benchmark/build built --interface
+    ./vacation tasks --tasks 1000 --items 8 > work
+    python3 share/vacation/templates/python/tl2.py built/libvacation_body.so < work > log &&
+        ./vacation judge --any-order --tasks work < log
 
-(`libvacation_body.so` is built by `benchmark/build FOLDER`.) The clients run in a child process, and each
+(`&&`, because a run that hung or crashed can end as `legal`.) The clients run in a child process, and each
 line of the log is written as its call ends, so that a run which crashes or stands still leaves a log, too.
 Calls that were cut short stand at its end as pending calls: others may have seen their effects. With
 --attempts it logs attempts in the order of their versions, for `vacation opaque`. With --mistake a commit

@@ -1,12 +1,13 @@
 // NOrec in Rust, with the standard library alone, over the C interface (include/vacation_tm.h):
 //
+//     benchmark/build built --interface
 //     rustc --edition 2021 -O --crate-type cdylib share/vacation/templates/rust/norec.rs -o norec.so
-//     vacation tasks --tasks 1000 --items 8 > work
-//     peer ./norec.so --history --jitter 1 --tries 1000000 < work | vacation judge --tasks work
-//     peer ./norec.so --attempts --jitter 1 --tries 1000000 < work | vacation opaque
+//     ./vacation tasks --tasks 1000 --items 8 > work
+//     built/peer ./norec.so --attempts --jitter 1 < work > attempts && ./vacation opaque < attempts
+//     built/peer ./norec.so --history --jitter 1 < work > log && ./vacation judge --tasks work < log
 //
-// (`peer` is built by `benchmark/build FOLDER`.) With `--cfg mistake` an attempt that finds the
-// sequence changed does not compare what it has read: the judge shall find that.
+// (`&&`, because a run that hung or crashed can end as `legal`: vacation_tm.h.) With `--cfg mistake` an
+// attempt that finds the sequence changed does not compare what it has read: the judge shall find that.
 
 use std::ffi::{c_int, c_uint, c_void};
 use std::hint::spin_loop;
