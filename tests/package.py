@@ -146,6 +146,17 @@ def holds_proved(ours, unpacked):
         want(all(line in said for line in lines if line != "Assumption"), f"PROVED on {heading}")
 
 
+def holds_readme(unpacked):
+    """The first page names files and folders that are there, and neither the packer's machine nor other programs."""
+    text = (unpacked / "README.md").read_text(encoding="utf-8")
+    here = text.split("**Source.**")[0]
+    for name in re.findall(r"`([\w/]+)`", here):
+        want((unpacked / name).exists(), f"README.md names {name}, which is not packed")
+    want("docs/JUDGE.md#three-steps" in text and len(text.splitlines()) <= 25, "the packed README.md")
+    for page in sorted(unpacked.glob("**/*.md")):
+        want(str(ROOT) not in page.read_text(encoding="utf-8"), f"{page.name} names a folder of this machine")
+
+
 def holds_peer(ours, unpacked, folder):
     """A peer of the shipped headers alone, whose history is legal."""
     compiler = next(filter(None, map(shutil.which, ("g++", "c++", "clang++"))), None)
@@ -260,6 +271,15 @@ def holds_manual(ours, share):
     want(all(word in history.split() for word in WORDS), "vacation-history(5)")
     want("CLIENT BEGIN END LINE -> REPLY" in history, "vacation-history(5)")
     want("./vacation" not in program + history, "a manual page names the script")
+    want(all(word in history for word in ("commit|abort [r A V | w A V]", "put-if-absent", "illegal places")),
+         "vacation-history(5) on attempts and keys")
+    usages = program.split("SYNOPSIS ")[1].split(" DESCRIPTION")[0]
+    want(len(re.findall(r"(?:^| )vacation ", usages)) == len(options_of(ours)), f"SYNOPSIS of vacation(1): {usages}")
+    keys = share / "man/man1/kv_judge.1"
+    want(keys.exists() == (share.parent / "kv_judge").exists(), "there should be kv_judge(1) beside kv_judge alone")
+    if keys.exists():
+        text = shown(keys)
+        want(all(word in text for word in ("kv_judge [--whole] [--start FILE]", "--help", "undecided or touching")), "kv_judge(1)")
 
 
 def holds_completions(ours, share):
@@ -317,6 +337,7 @@ def main():
             holds_subcommands(ours)
             holds_proved(ours, unpacked)
             holds_links(unpacked)
+            holds_readme(unpacked)
             holds_peer(ours, unpacked, folder)
             holds_database(unpacked)
             holds_explanation(ours, unpacked)

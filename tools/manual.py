@@ -144,7 +144,7 @@ def table_of(table):
 
 def code_of(lines):
     """Lines as they stand, of a program that is installed."""
-    installed = "\n".join(lines).replace("./vacation", "vacation").replace(" | ", " |\n      ")
+    installed = re.sub(r"\./(vacation|kv_judge)\b", r"\1", "\n".join(lines)).replace(" | ", " |\n      ")
     shown = [literal(line) for line in installed.split("\n")]
     shown = [f"\\&{line}" if line[:1] in (".", "\\") else line for line in shown]
     return "\n".join([".PP", ".in +4n", ".nf", *shown, ".fi", ".in"])
@@ -166,8 +166,9 @@ def option_of(flags, text):
 
 
 def usage_of(usage):
-    """A usage: the words of the command in bold, and what it takes as clap writes it."""
-    words = usage.split(" ")
+    """A usage: the words of the command in bold, and what it takes as clap writes it. The file of the program
+    whose help was read may have another name."""
+    words = ["vacation", *usage.split(" ")[1:]]
     fixed = [word for word in words if word[0] not in "<["]
     return " ".join([bold(" ".join(fixed)), *[f"\\fI{literal(word)}\\fR" for word in words[len(fixed):]]])
 
@@ -214,7 +215,7 @@ def history_page(rules, using, version, day):
     run = section(using, "## `run`: commands and their replies")
     words = first("text", run, "KIND is")
     lines = [head("VACATION-HISTORY", 5, version, day, "File Formats"),
-             ".SH NAME", "vacation-history \\- calls with their replies, as vacation judge reads them",
+             ".SH NAME", "vacation-history \\- calls and attempts, as vacation judge, vacation opaque and kv_judge read them",
              ".SH DESCRIPTION", roff(section(rules, "### Histories")),
              ".SH LINES AND REPLIES", marked(words)]
     for heading in ("Items", "Customers and bookings", "Whole tasks"):
@@ -223,8 +224,35 @@ def history_page(rules, using, version, day):
     lines += [".SH REFUSALS", marked(first("text", refused)), table_of(first("table", refused))]
     lines += [".SH FAULTS OF A LINE", "The first of these that applies is the fault of a LINE that is no task:",
               table_of(first("table", section(using, "### Lines that are no command")))]
+    lines += [".SH TEXTS OF ATTEMPTS", roff(section(rules, "### Texts of attempts"))]
+    lines += [".SH HISTORIES OF A KEY-VALUE STORE", roff(section(rules, "### Histories of a key-value store"))]
     lines += [".SH EXAMPLES", code_of(first("code", section(using, "## `judge`: whether a history is legal"))),
-              ".SH SEE ALSO", f"{bold('vacation')}(1)"]
+              ".SH SEE ALSO", f"{bold('vacation')}(1), {bold('kv_judge')}(1)"]
+    return "\n".join(lines) + "\n"
+
+
+def read_keys_help(text):
+    """The help of the judge of keys and values: what it does, its usage, and its options with their texts."""
+    usage, about, options, _ = text.strip("\n").split("\n\n")
+    entries = re.findall(r"^(--\w+(?: [A-Z]+)?) {2,}(.+(?:\n(?!--).+)*)", options, flags=re.M)
+    if not entries:
+        raise ValueError("the help of kv_judge has no options")
+    return " ".join(about.split()), usage.removeprefix("usage: "), [(flag, " ".join(said.split())) for flag, said in entries]
+
+
+def keys_page(text, rules, version, day):
+    """The manual page of the judge of keys and values, from its help and the page on the rules."""
+    about, usage, options = read_keys_help(text)
+    keys = section(rules, "### Histories of a key-value store")
+    program, *rest = usage.split(" ")
+    lines = [head("KV_JUDGE", 1, version, day, "User Commands"),
+             ".SH NAME", "kv_judge \\- judges whether a history of a key-value store is linearizable",
+             ".SH SYNOPSIS", f"{bold(program)} {literal(' '.join(rest))}",
+             ".SH DESCRIPTION", marked(about), f"The lines and the verdicts: {bold('vacation-history')}(5).",
+             ".SH OPTIONS", *[tagged(bold(flag), marked(said)) for flag, said in options],
+             ".SH EXIT STATUS", table_of(first("table", keys, "the history is not legal")),
+             ".SH EXAMPLES", code_of(first("code", keys)),
+             ".SH SEE ALSO", f"{bold('vacation')}(1), {bold('vacation-history')}(5)"]
     return "\n".join(lines) + "\n"
 
 

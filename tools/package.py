@@ -29,6 +29,8 @@ AS_IT_STANDS = ("benchmark", "explain", "tools/explaining", "convert", "tools/co
                 "docs/*.svg", "docs/anomaly", "docs/histories", "docs/measured.csv", "docs/clauses.txt")
 # The judge of keys and values, beside the program.
 KEYS = "kv_judge"
+# Stands behind the words of a link to a page that is not packed.
+ELSEWHERE = " [in the source tree]"
 # Debian has a package named vacation already, which answers letters.
 DEBIAN_NAME = "pighvelo"
 PROGRAM_MODE, TEXT_MODE = 0o755, 0o644
@@ -58,6 +60,7 @@ class Release:
         self.commit, seconds = said(*git, "log", "-1", "--format=%H %ct").split()
         self.seconds = int(seconds)
         self.is_changed = said(*git, "status", "--porcelain") != ""
+        self.keys_help = said(Path(keys).resolve(), "--help") if keys else None
         self.whole = manual.read_help(said(self.program, "--help"))
         self.commands = {name: manual.read_help(said(self.program, name, "--help"))
                          for name, _ in self.whole.commands if name != "help"}
@@ -77,8 +80,8 @@ def proved(release):
     text += "\n" + manual.wrapped(
         "The program tells its version, and that of the prover and its logic, itself (`vacation --version`). That"
         " it was built in the tree of this commit is the word of whoever packed it. Promises and assumptions are"
-        " those of the first page (`README.md`) of that tree; pages named here that are not beside this file"
-        " stand there.") + "\n"
+        " those of the first page of the source tree, its `README.md`; pages named here that are not beside this"
+        " file stand there.") + "\n"
     for heading in ("## What is promised", "## What is trusted"):
         title = heading.removeprefix("## ")
         text += f"\n\n{title}\n{'=' * len(title)}\n"
@@ -97,6 +100,30 @@ def proved(release):
     return text
 
 
+README = """# {title}
+
+A travel reservation system on a software transactional memory, and judges of histories and attempts of other runtimes. Its programs are proved. Type the commands of the pages in this folder.
+
+| You are .. | Begin with .. |
+|---|---|
+| the author of a transactional memory or a runtime | [Three steps](docs/JUDGE.md#three-steps), [A shared object](docs/JUDGE.md#a-shared-object) |
+| a database engineer | [Databases under faults](docs/DATABASES.md) |
+| somebody with logs of a key-value store or a map | [Judge etcd, Redis and lock-free maps](docs/JUDGE.md#judge-etcd-redis-and-lock-free-maps) |
+| a reader of the theorem | [Theorem](docs/THEOREM.md), [Promises](docs/PROMISES.md), [every clause](docs/clauses.txt), `docs/ledger` |
+| a user of the program | [Using the program](docs/USING.md), [Rules](docs/RULES.md), `man -l share/man/man1/vacation.1` |
+| somebody who doubts the numbers | [Measured](docs/MEASURED.md), [The benchmark](benchmark/README.md) |
+
+**What is proved** is said in [PROVED](PROVED), with the commit, the toolchain and the assumptions. It is said of {programs} alone. Not proved: the scripts `explain` and `convert`, and all of `benchmark`, `include` and `share`; they are tested.
+
+**Source.** Specifications, proofs and tests are in the source tree, in the language Rattle. Neither has a public address yet: ask whoever gave you this folder. Only in the source tree is what the pages name below `crates/`, `tests/`, `tests/anomalies` and `tools/` (except `tools/explaining` and `tools/converting`), `./dev`, `./test`, `rt`, and pages that are not in `docs` here. So are the judge of a queue (`queue_judge`) and the page on judges of other objects (`OBJECTS.md`).
+"""
+
+
+def readme(release):
+    """The first page of what is packed: who begins where, what is proved, and what is not here."""
+    return README.format(title=release.title, programs=" and ".join(f"`{name}`" for name in release.programs))
+
+
 def files_as_they_stand():
     """The files of the tree that are packed without a change, each with its mode."""
     git = ("git", "-c", f"safe.directory={ROOT}", "ls-files", "--cached", "--others", "--exclude-standard")
@@ -105,13 +132,16 @@ def files_as_they_stand():
 
 
 def without_dead_links(name, text, packed):
-    """The text of a page, in which links to what is not packed are plain words."""
+    """The text of a page, in which links to what is not packed are plain words. A page by hand says where the
+    target is; the ledger has thousands of such links."""
+    elsewhere = "" if name.startswith("docs/ledger/") else ELSEWHERE
+
     def kept(link):
         mark, words, target = link.groups()
         path = os.path.normpath(os.path.join(os.path.dirname(name), target.partition("#")[0] or os.path.basename(name)))
         if re.match(r"https?:", target) or path in packed:
             return link.group(0)
-        return "" if mark else words
+        return "" if mark else words + elsewhere
 
     return re.sub(r"(!?)\[([^\]]*)\]\(([^)\s]+)\)", kept, text)
 
@@ -134,8 +164,11 @@ def texts(release):
         "man/man5/vacation-history.5": manual.history_page(rules, using, release.title, day),
         "bash-completion/completions/vacation": manual.completions(release.whole, release.commands),
     }
+    if release.keys_help:
+        share["man/man1/kv_judge.1"] = manual.keys_page(release.keys_help, rules, release.title, day)
     made = {f"share/{name}": text.encode() for name, text in share.items()}
     made["PROVED"] = proved(release).encode()
+    made["README.md"] = readme(release).encode()
     files = {name: (data, TEXT_MODE) for name, data in made.items()}
     for name in LICENSES:
         files[name] = ((ROOT / name).read_bytes(), TEXT_MODE)

@@ -1,9 +1,8 @@
 //! Histories of a few lines that claim no order, with the output of the search.
 
 use crate::texts::Row;
-use judge_object::Level;
 use judge_linear::{Outcome, Settings, order_history};
-use judge_object::Watcher;
+use judge_object::{Level, Watcher};
 use std::alloc::Global;
 use std::test::Fail;
 use vac_lines::StreamFault;

@@ -1,7 +1,6 @@
 //! Cuts of histories that were worked out by hand.
 
-use judge_object::cut_lines;
-use judge_object::{Line, NEVER};
+use judge_object::{Line, NEVER, cut_lines};
 use std::alloc::Global;
 use std::process::Abort;
 

@@ -1,8 +1,7 @@
 //! The part of a history, on a scope that the history gives.
 
 use judge_object::{Line, NEVER};
-use judge_reservations::{part_of_history, scope_of};
-use judge_reservations::ValidTask;
+use judge_reservations::{ValidTask, part_of_history, scope_of};
 use std::alloc::Global;
 use std::process::Abort;
 use vac_lines::{print_task, read_line};

@@ -1,7 +1,7 @@
 //! Histories of a few lines that are judged at each level of consistency.
 
-use judge_object::Level;
 use judge_linear::{Outcome, Settings, order_history};
+use judge_object::Level;
 use std::test::Fail;
 
 /// A history, and its outcomes as a linearizable, a sequentially consistent and a serializable one.

@@ -1,7 +1,7 @@
 //! Histories of a few lines that claim no order, of which parts are searched before the whole.
 
-use judge_object::Level;
 use judge_linear::{Outcome, Settings, order_history};
+use judge_object::Level;
 use std::test::Fail;
 
 /// A history, the kind of its result, and the output.
