@@ -28,3 +28,4 @@ pub mod Getters
 pub mod Sources
 pub mod Values
 pub mod Levels
+pub mod Verdicts

@@ -7,3 +7,4 @@ pub mod Ordering
 pub mod Asking
 pub mod Parting
 pub mod CommandLine
+pub mod Laws

@@ -4,3 +4,4 @@ pub mod Histories
 pub mod Without
 pub mod Parts
 pub mod Then
+pub mod Illegal
