@@ -206,7 +206,7 @@ def program_page(whole, commands, using, version, day):
     lines += [".SH DIAGNOSTICS", "The last line names the fault:", table_of(faults)]
     lines += [".SH EXAMPLES", code_of(first("code", section(using, "## `run`: commands and their replies"))),
               code_of(first("code", section(using, "## `judge`: whether a history is legal")))]
-    lines += [".SH SEE ALSO", f"{bold('vacation-history')}(5)"]
+    lines += [".SH SEE ALSO", f"{bold('vacation-history')}(5), {bold('kv_judge')}(1)"]
     return "\n".join(lines) + "\n"
 
 

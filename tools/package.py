@@ -102,7 +102,7 @@ def proved(release):
 
 README = """# {title}
 
-A travel reservation system on a software transactional memory, and judges of histories and attempts of other runtimes. Its programs are proved. Type the commands of the pages in this folder.
+A travel reservation system on a software transactional memory, and judges of histories and attempts of other runtimes. The programs are proved. Type the commands of the pages in this folder.
 
 | You are .. | Begin with .. |
 |---|---|
@@ -115,7 +115,7 @@ A travel reservation system on a software transactional memory, and judges of hi
 
 **What is proved** is said in [PROVED](PROVED), with the commit, the toolchain and the assumptions. It is said of {programs} alone. Not proved: the scripts `explain` and `convert`, and all of `benchmark`, `include` and `share`; they are tested.
 
-**Source.** Specifications, proofs and tests are in the source tree, in the language Rattle. Neither has a public address yet: ask whoever gave you this folder. Only in the source tree is what the pages name below `crates/`, `tests/`, `tests/anomalies` and `tools/` (except `tools/explaining` and `tools/converting`), `./dev`, `./test`, `rt`, and pages that are not in `docs` here. So are the judge of a queue (`queue_judge`) and the page on judges of other objects (`OBJECTS.md`).
+**Source.** Specifications, proofs and tests are in the source tree, in the language Rattle. The source tree and Rattle have no public address yet: ask whoever gave you this folder. The pages are those of the source tree. Only there is what they name below `crates/`, `tests/` and `tools/` (except `tools/explaining` and `tools/converting`), and `./dev`, `./test`, and pages that `docs` here does not have. The judge of a queue (`queue_judge`) and the page on judges of other objects (`OBJECTS.md`) are there too; `rt` is Rattle's.
 """
 
 
