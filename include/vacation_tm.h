@@ -31,9 +31,10 @@ extern "C" {
  * words of the memory are read from it. Returns what `tm_client` gets. */
 void *tm_open(uint64_t *words, size_t count);
 
-/* Called once for each client, in its thread. There are at most 65 clients, with the numbers 0 to 64.
- * Client 0 opens the system alone, before the others begin. The others are numbered as their threads
- * arrive, so the number is not CLIENT of the log. Returns what the calls below get. */
+/* Called once for each client, in its thread. Client 0 opens the system alone, before the others begin.
+ * The others are numbered from 1 as their threads arrive, so the number is not CLIENT of the log.
+ * `vacation tasks` draws work for at most 64 clients besides client 0, so the numbers are 0 to 64;
+ * other work may have more clients. Returns what the calls below get. */
 void *tm_client(void *shared, unsigned number);
 
 /* Begins an attempt. It ends by `tm_commit`, or by a conflict: `tm_read`, `tm_write` or `tm_commit`
@@ -54,8 +55,9 @@ int tm_commit(void *client);
  *   version to which it extended. If it read nothing, v is the version at its begin.
  * - A memory without versions returns 0. Its calls then stand by their begin: judge its histories by
  *   `vacation judge --any-order`, and no attempts.
- * - A memory that numbers its writers alone returns 2 * v for them, and 0 for other attempts:
- *   `vacation judge --any-order` and `vacation opaque --place`. */
+ * - A memory that numbers its writers alone returns 2 * v for them, and 0 for other attempts. Judge
+ *   its attempts by `vacation opaque --place`, and its histories by `vacation judge --any-order` behind
+ *   `sort -n -k 2,2`, which puts the lines of each client into its order. */
 uint64_t tm_place(void *client);
 
 /* Optional. Ends an attempt that the driver abandons, because what it has read leads its task to
