@@ -215,7 +215,8 @@ def history_page(rules, using, version, day):
     run = section(using, "## `run`: commands and their replies")
     words = first("text", run, "KIND is")
     lines = [head("VACATION-HISTORY", 5, version, day, "File Formats"),
-             ".SH NAME", "vacation-history \\- calls and attempts, as vacation judge, vacation opaque and kv_judge read them",
+             ".SH NAME",
+             "vacation-history \\- calls and attempts, as vacation judge, vacation opaque and kv_judge read them",
              ".SH DESCRIPTION", roff(section(rules, "### Histories")),
              ".SH LINES AND REPLIES", marked(words)]
     for heading in ("Items", "Customers and bookings", "Whole tasks"):
@@ -237,7 +238,8 @@ def read_keys_help(text):
     entries = re.findall(r"^(--\w+(?: [A-Z]+)?) {2,}(.+(?:\n(?!--).+)*)", options, flags=re.M)
     if not entries:
         raise ValueError("the help of kv_judge has no options")
-    return " ".join(about.split()), usage.removeprefix("usage: "), [(flag, " ".join(said.split())) for flag, said in entries]
+    texts = [(flag, " ".join(said.split())) for flag, said in entries]
+    return " ".join(about.split()), usage.removeprefix("usage: "), texts
 
 
 def keys_page(text, rules, version, day):
