@@ -73,7 +73,7 @@ TOLD = {
     "stale-read-of-the-own-write": "Or what 2 wrote was lost: these calls alone do not tell.",
     "write-skew": "Or what 3 wrote was lost: these calls alone do not tell.",
     "lost-update-of-a-bill": "7 reads the bookings of customer 4, flight 1, room 5 and removes customer 4's booking of"
-                             " flight 1, customer 4's booking of room 5, customer 4 forbidden: ",
+                             " flight 1, customer 4's booking of room 5, customer 4 levels",
 }
 # Both orders of two updates before a read.
 BOTH_ORDERS = ("2, then 3, then 4: it answered 2, right is 3", "3, then 2, then 4: it answered 2, right is 3")
@@ -388,9 +388,9 @@ def holds_anomalies(program, folder):
         want(len(lines) <= MOST_LINES and max(map(len, lines)) <= MOST_WIDTH, f"{stem}: too long: {lines}")
         want(lines[1].strip().startswith(kind), f"{stem}: {lines[1]}")
         is_timeless = allows in (SEQUENTIAL, SERIALIZABLE) or stem.endswith("-without-times")
-        alone = "these calls alone, without their times" if is_timeless else "these calls alone"
-        levels = f"forbidden: {', '.join(LEVELS[:LEVELS.index(forbids) + 1])}" + (
-            f"; allowed ({alone}): {', '.join(LEVELS[LEVELS.index(allows):])} " if allows else " proved")
+        allowed = "allowed, without their times" if is_timeless else "allowed"
+        levels = f"levels (these calls alone): forbidden: {', '.join(LEVELS[:LEVELS.index(forbids) + 1])}" + (
+            f"; {allowed}: {', '.join(LEVELS[LEVELS.index(allows):])} proved" if allows else " proved")
         want(levels in text and "proved illegal: " in text and "not proved: " in text, f"{stem}: {lines}")
         want(TOLD.get(stem, "") in text, f"{stem}: {TOLD.get(stem)!r} is not told: {lines}")
         want(stem != "lost-update" or all(f"  {order}" in lines for order in BOTH_ORDERS), f"{stem}: {lines}")
@@ -437,8 +437,8 @@ def holds_agreement(program, folder):
             want(forbids is None or not levels.allowed[forbids], f"seed {seed}: {finding.kind.name}, which {forbids}"
                  f" forbids, although it allows the calls: {lines}")
             want("(P4)" not in finding.kind.title() or not levels.allowed[SNAPSHOT], f"seed {seed}: P4: {lines}")
-            want("right is" in "".join(text := explanation([finding], read, [*verdict, "states 3"], 3, []).split("\n"))
-                 or len(finding.few.calls) > 4, f"seed {seed}: no order: {text}")
+            text = explanation([finding], read, [*verdict, "states 3"], 3, []).split("\n")
+            want(len(finding.few.calls) > 4 or "right is" in " ".join(text), f"seed {seed}: no order: {text}")
             want(len(text) <= MOST_LINES and max(map(len, text)) <= MOST_WIDTH, f"seed {seed}: too long: {text}")
             want("illegal part" not in verdict[0] or "just before, 3 states were" in " ".join(
                 line.strip() for line in text), f"seed {seed}: no states: {text}")
@@ -457,8 +457,10 @@ def holds_other_logs(program, folder):
     log = folder / "log"
     log.write_text("".join(f"{line}\n" for line in ANOTHER_ORDER), encoding="ascii")
     lines = explain(program, log, wanted=0)
-    want(lines[:2] == ["legal calls=2 clients=2", "legal in another order; in the order of its lines: illegal reply 1 -1"]
-         and "that order is wrong; or the runtime is wrong" in " ".join(line.strip() for line in lines), f"{lines}")
+    text = " ".join(line.strip() for line in lines)
+    want(text.startswith("legal calls=2 clients=2 legal in another order; in the order of its lines: illegal reply 1"
+                         " -1 ")
+         and "that order is wrong; or the runtime is wrong" in text, f"{lines}")
     attempts = subprocess.run([program.path, "load", "--clients", "2", "--attempts"], capture_output=True, text=True,
                               check=True, timeout=PATIENCE).stdout
     tasks = subprocess.run([program.path, "tasks", "--tasks", "30"], capture_output=True, text=True, check=True,

@@ -20,8 +20,8 @@ LOST_UPDATE_CODES, READ_SKEW_CODES = "P4", "G-single, A5A"
 # The strongest level that allows the anomaly is weaker than this one.
 FORBIDDEN_BY = {WRITE_SKEW: SERIALIZABLE, LOST_UPDATE: SNAPSHOT, READ_SKEW: SNAPSHOT, LONG_FORK: SNAPSHOT,
                 TORN_READ: COMMITTED}
-# Other causes that are told beside the name.
-MOST_OTHER_FAULTS = 2
+# Other causes that are told beside the name, the likeliest first, and the most of them.
+OTHER_FAULTS, MOST_OTHER_FAULTS = (Fault.LOST, Fault.EARLY, Fault.TWICE, Fault.TORN), 2
 
 
 @dataclass(frozen=True)
@@ -142,12 +142,13 @@ def _of_snapshots(schedule: list[Step]) -> Kind:
     codes = "G2, by a phantom" if is_phantom else "G2-item, A5B"
     return Kind(WRITE_SKEW, codes, f"{told[:1].upper()}{told[1:]}. Each call read one snapshot, and they wrote no"
                 " word or row in common.", SNAPSHOT, schedule,
-                f"the last commit of {_listed(edges)} did not validate its reads.")
+                f"{_readers(edges)} did not validate its reads.")
 
 
-def _listed(edges: list[tuple[Step, Step, Row]]) -> str:
-    """The readers of some edges."""
-    return " and ".join(dict.fromkeys(str(reader.call.number) for reader, _, _ in edges))
+def _readers(edges: list[tuple[Step, Step, Row]]) -> str:
+    """That one of the readers of some edges that had to validate its reads."""
+    names = list(dict.fromkeys(str(reader.call.number) for reader, _, _ in edges))
+    return names[0] if len(names) == 1 else f"whichever of {' and '.join(names)} committed last"
 
 
 def _of_statements(schedule: list[Step], level: str) -> Kind:
@@ -256,7 +257,7 @@ def _others(part: Part, wrong: Call, kind: Kind, causes: list[Cause]) -> str:
         is_stale = cause.fault is not Fault.EARLY or cause.call.number == wrong.number
         if cause.fault not in known and cause.call.number in numbers and is_stale:
             found.setdefault(cause.fault, {})[cause.call.number] = None
-    told = [_fault_in_words(fault, sorted(found[fault])) for fault in Fault if fault in found]
+    told = [_fault_in_words(fault, sorted(found[fault])) for fault in OTHER_FAULTS if fault in found]
     return f" Or {', or '.join(told[:MOST_OTHER_FAULTS])}: these calls alone do not tell." if told else ""
 
 

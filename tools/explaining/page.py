@@ -14,7 +14,7 @@ from .picture import picture, round_times
 from .program import MOST_BLOCKS
 from .tasks import Call
 from .timeline import Timeline
-from .words import (Told, alone, changes_in_words, duration, extremes, headline, is_decided, level_words, merged,
+from .words import (Told, changes_in_words, duration, extremes, headline, is_decided, level_words, merged,
                     not_proved, proved, proved_parts, schedule_heading, state_in_words, step_in_words,
                     verdict_in_words)
 
@@ -156,8 +156,9 @@ class Article:
                        f"</td><td class='soft'>{MEANINGS[level]}</td></tr>" for level, answer, sure in
                        level_words(self.finding))
         text = extremes(self.finding)
-        return (f"<h3>Which levels allow it</h3><p>{text[:1].upper()}{text[1:]}. This is about"
-                f" {escape(alone(self.finding))}.</p><table>{rows}</table>")
+        when = "" if self.finding.levels.keeps_times() else " They are allowed without their times."
+        return (f"<h3>Which levels allow it</h3><p>{text[:1].upper()}{text[1:]}. This is about these calls alone."
+                f"{when}</p><table>{rows}</table>")
 
     def _schedule(self) -> str:
         steps = merged(self.finding.kind.schedule)
@@ -180,10 +181,11 @@ class Article:
         customers = [f"customer {one}" for one in sorted(self.finding.found.customers)]
         items = [f"{kind} {one}" for kind, one in sorted(self.finding.found.items)]
         scope = ", ".join([*customers, *items[:6]] + ([f"{len(items) - 6} more items"] if len(items) > 6 else []))
+        parts = "; ".join(proved_parts(self.finding, self.verdict))
         return ("<h3>What is proved, and what is not</h3>" + _items([
             f"<li><b>Proved</b> to be illegal, by the program's verdict on each:"
             f" {escape(proved(self.finding, self.history, self.verdict))}.</li>",
-            f"<li><b>Proved</b> to be illegal besides: {escape('; '.join(proved_parts(self.finding)))}.</li>",
+            f"<li><b>Proved</b> to be illegal besides: {escape(parts)}.</li>",
             f"<li>The part is what the calls say about {escape(scope or 'everything')}.</li>",
             f"<li><b>Not proved</b>: {escape(not_proved(self.finding, self.verdict))}; and that a"
             " legal log has a legal part as the script takes it (argued and tested).</li>"]))

@@ -46,20 +46,20 @@ class Program:
         raise NoProgram(f"there is no program at {places[0]}: start ./vacation once, or name one with --program")
 
     def judge_file(self, path: Path, blocks: int) -> tuple[int, list[str]]:
-        """The status and the lines of the verdict on a log."""
-        with open(path, "rb") as log:
-            done = subprocess.run([self.path, "judge", "--any-order", "--blocks", str(blocks), "--steps",
-                                   str(LOG_STEPS)], stdin=log, capture_output=True, text=True, check=False)
-        if not done.stdout:
-            raise NoProgram(f"{self.path} gave no verdict (status {done.returncode}): {done.stderr.strip()}")
-        return done.returncode, done.stdout.splitlines()
+        """The status and the lines of the verdict on a log, in any order."""
+        return self._judge_file(path, blocks, "--any-order", "--steps", str(LOG_STEPS))
 
     def judge_lines(self, path: Path, blocks: int) -> str:
         """The first line of the verdict on a log in the order of its lines."""
+        return self._judge_file(path, blocks)[1][0]
+
+    def _judge_file(self, path: Path, blocks: int, *options: str) -> tuple[int, list[str]]:
         with open(path, "rb") as log:
-            done = subprocess.run([self.path, "judge", "--blocks", str(blocks)], stdin=log, capture_output=True,
-                                  text=True, check=False)
-        return done.stdout.partition("\n")[0] or f"status {done.returncode}"
+            done = subprocess.run([self.path, "judge", "--blocks", str(blocks), *options], stdin=log,
+                                  capture_output=True, text=True, check=False)
+        if not done.stdout:
+            raise NoProgram(f"{self.path} gave no verdict (status {done.returncode}): {done.stderr.strip()}")
+        return done.returncode, done.stdout.splitlines()
 
     def part(self, path: Path, customers: Iterable[int], items: Iterable[Item]) -> list[str] | None:
         """The lines of the part of a log on a scope, or none if a call has no part or the scope is too large."""

@@ -12,8 +12,8 @@ from .findings import Finding, kinds
 from .history import History
 from .levels import Step
 from .tasks import Call
-from .words import (Told, alone, duration, headline, level_words, merged, not_proved, proved, schedule_heading,
-                    state_in_words, step_in_words, verdict_in_words)
+from .words import (Told, allowed, duration, headline, is_decided, level_words, merged, not_proved, proved,
+                    schedule_heading, state_in_words, step_in_words, verdict_in_words)
 
 MOST_LINES, WIDTH, BAR = 30, 100, 46
 MOST_CALLS, MOST_ORDERS, MOST_STATES = 6, 2, 4
@@ -139,12 +139,12 @@ def _schedule(finding: Finding) -> Section:
 
 def _levels(finding: Finding) -> Section:
     """The levels by their answer, the strongest first."""
-    heads = {"no": "forbidden", "yes": f"allowed ({alone(finding)})", "not known": "not known"}
+    heads = {"no": "forbidden", "yes": allowed(finding), "not known": "not known"}
     told = []
     for answer, head in heads.items():
         levels = [level for level, found, _ in level_words(finding) if found == answer]
         told += [f"{head}: {', '.join(levels)}"] if levels else []
-    return Section(None, [Piece(_wrapped("; ".join(told)), ALWAYS)])
+    return Section(None, [Piece(_wrapped(f"levels (these calls alone): {'; '.join(told)}"), ALWAYS)])
 
 
 def _claims(finding: Finding, history: History, verdict: str) -> Section:
@@ -169,9 +169,10 @@ def explanation(explained: list[Finding], history: History, verdict: list[str], 
             Piece(_wrapped(f"{kind.title()}: {kind.why}", "  ", ""), ALWAYS)]
     if kind.hint:
         head.append(Piece(_wrapped(f"In a transactional memory: {kind.hint}", "  ", ""), HINT))
+    apart = " (the program's own search, apart from the calls above)" if is_decided(verdict[0]) else ""
     sections = [Section(None, head), _states(finding), _calls(finding, history), _orders(finding, history),
                 _schedule(finding), _levels(finding), _claims(finding, history, verdict[0]),
                 _others(explained, others),
                 Section(None, [Piece(_wrapped(line), ALWAYS) for line in written]),
-                Section(None, [Piece(_wrapped(f"verdict: {verdict_in_words(verdict)}"), ALWAYS)])]
+                Section(None, [Piece(_wrapped(f"verdict: {verdict_in_words(verdict)}{apart}"), ALWAYS)])]
     return "\n".join(_fitted(sections))

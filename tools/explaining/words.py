@@ -207,9 +207,9 @@ def extremes(finding: Finding) -> str:
     return f"weakest level that forbids them: {finding.levels.weakest_forbidding()}; {allowing}"
 
 
-def alone(finding: Finding) -> str:
-    """What the answers of the levels are about."""
-    return "these calls alone" + ("" if finding.levels.keeps_times() else ", without their times")
+def allowed(finding: Finding) -> str:
+    """How the levels that allow the calls allow them."""
+    return "allowed" + ("" if finding.levels.keeps_times() else ", without their times")
 
 
 def schedule_heading(finding: Finding) -> str:
@@ -232,11 +232,11 @@ def proved(finding: Finding, history: History, verdict: str) -> str:
     return f"{log}the {few} call{'s'[:few != 1]} above after the state before them{each}"
 
 
-def proved_parts(finding: Finding) -> list[str]:
-    """The parts of the log that the proved program calls illegal."""
+def proved_parts(finding: Finding, verdict: str) -> list[str]:
+    """The parts of the log that the proved program calls illegal besides."""
     part = len(finding.found.part.calls)
-    own = [] if finding.proved_calls is None else [
-        f"the part of the log that 'vacation part' writes ({finding.proved_calls:,} calls), so the log is illegal"]
+    is_told = finding.proved_calls is None or not is_decided(verdict)
+    own = [] if is_told else [f"the part of the log that 'vacation part' writes ({finding.proved_calls:,} calls)"]
     return [*own, f"the part of the log that the script takes ({part:,} call{'s'[:part != 1]})"]
 
 
@@ -260,11 +260,11 @@ def verdict_in_words(verdict: list[str]) -> str:
     if words[:2] == ["illegal", "part"]:
         before = "" if states == "1" else f"; just before, {states} states were possible"
         return (f"{told}: when line {words[2]} ended, no order was left of what the calls say of"
-                f" {_scope_in_words(words[3:])}{before} (the program's own search, apart from the calls above)")
+                f" {_scope_in_words(words[3:])}{before}")
     if words[:2] == ["illegal", "order"]:
         return (f"{told}: no order of all calls is right, and at most {words[2]} of those that ended come one after"
-                " the other with right answers (the program's own search, apart from the calls above)")
-    return f"{told}: the program's own search of the whole log came to no end"
+                " the other with right answers")
+    return f"{told}: the program's search of the whole log came to no end"
 
 
 def _scope_in_words(words: list[str]) -> str:

@@ -1,5 +1,6 @@
 -- The report of a judge on its log.
-use Rattle.std.proofs.Common.{◌≡◌, ◌∙◌, ◌++◌, ℕ, Bool, true, false, List, [], Option, None, Some, is_some, ap, sym, subst, refl}
+use Rattle.std.proofs.Common.{◌≡◌, ◌∙◌, ◌++◌, ℕ, Bool, true, false, List, [], Option, None, Some, is_some, ap, sym}
+use Rattle.std.proofs.Common.{subst, refl}
 use Rattle.std.proofs.Common.{append-nil}
 use Rattle.vac_lines.specs.Writing.{AppendsPrefix}
 use Rattle.cli_main.specs.declared.asked.JudgeSettings.{JudgeSettings}

@@ -15,8 +15,8 @@ use Rattle.cli_main.specs.declared.asked.Request.TheVariants.{Opaque, Part, Load
 use Rattle.cli_main.specs.declared.asked.Request.TheVariants.{UnknownLevel}
 use Rattle.cli_main.specs.Asking.{is_refused}
 
--- a report: the figures if they are asked for, and behind them the warnings if the status is that of
--- a positive verdict
+-- a report: the figures if they are asked for, and behind them the warnings if the status is that
+-- of a positive verdict
 abbrev pub report_of : Bool → ℕ → List ℕ → List ℕ → List ℕ
 report_of stats status figures warning =
     (if stats then figures else []) ++ (if status == 0 then warning else [])
