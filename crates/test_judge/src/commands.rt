@@ -43,6 +43,8 @@ const OPEN: &[Row] = &[
     ("price car 1", "50", "price car 1 -> 50"),
     ("price car 2", "50", ""),
     ("bill 7", "100", ""),
+    ("bill 7", "-1", "bill 7 -> -1"),
+    ("bill 8", "-1", ""),
     ("reserve 7 car 1 2", "true", "reserve 7 car 1 2 -> true"),
     (
         "reserve 7 car 1",

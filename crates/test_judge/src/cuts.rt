@@ -4,21 +4,23 @@ use judge_object::{Line, NEVER, cut_lines};
 use std::alloc::Global;
 use std::process::Abort;
 
-/// A client, a begin, and an end unless the call is pending.
-type Row = (u32, u64, Option<u64>);
+/// A client, a begin, an end unless the call is pending, and a reply unless it is not known.
+type Row = (u32, u64, Option<u64>, Option<&'static str>);
 
 /// A moment, and the calls as they stood then: the numbers of their lines, and an end unless the
 /// call was running.
 type Cut = (u64, &'static [(u64, Option<u64>)]);
 
-/// A history with calls that begin and end at one moment, and with a pending call.
+/// A history with calls that begin and end at one moment, with a pending call and with an
+/// undetermined call.
 const CALLS: &[Row] = &[
-    (1, 0, Some(2)),
-    (2, 1, Some(5)),
-    (1, 2, Some(2)),
-    (1, 2, Some(4)),
-    (3, 3, None),
-    (1, 5, Some(5)),
+    (1, 0, Some(2), Some("true")),
+    (2, 1, Some(5), Some("false exists")),
+    (1, 2, Some(2), Some("-1")),
+    (1, 2, Some(4), Some("430")),
+    (3, 3, None, None),
+    (1, 5, Some(5), Some("false full")),
+    (4, 4, None, Some("50")),
 ];
 
 const CUTS: &[Cut] = &[
@@ -33,7 +35,7 @@ const CUTS: &[Cut] = &[
         3,
         &[(1, Some(2)), (2, None), (3, Some(2)), (4, None), (5, None)],
     ),
-    // the last call has not begun
+    // the undetermined call begins, and the last one has not begun
     (
         4,
         &[
@@ -42,9 +44,10 @@ const CUTS: &[Cut] = &[
             (3, Some(2)),
             (4, Some(4)),
             (5, None),
+            (7, None),
         ],
     ),
-    // all calls had ended but the pending one
+    // all calls had ended but the pending one and the undetermined one
     (
         5,
         &[
@@ -54,6 +57,7 @@ const CUTS: &[Cut] = &[
             (4, Some(4)),
             (5, None),
             (6, Some(5)),
+            (7, None),
         ],
     ),
     // the last of all moments
@@ -66,12 +70,22 @@ const CUTS: &[Cut] = &[
             (4, Some(4)),
             (5, None),
             (6, Some(5)),
+            (7, None),
         ],
     ),
 ];
 
-/// Makes the line of a row, with an operation and a reply that have its number.
+/// Makes the text of a reply, if it is known.
+fn reply_of(rt: &impl Abort, alloc: Global, row: &Row) -> Option<Vec<u8>> {
+    match row.3 {
+        Some(reply) => Some(Vec::from_slice(alloc, reply.as_bytes()).expect(rt, "there is memory")),
+        None => None,
+    }
+}
+
+/// Makes the line of a row, with an operation that has its number. A completed call has a reply.
 fn line_of(rt: &impl Abort, alloc: Global, number: u64, row: &Row) -> Line<u64> {
+    let reply = reply_of(rt, alloc, row);
     match row.2 {
         Some(end) => Line {
             number,
@@ -80,7 +94,7 @@ fn line_of(rt: &impl Abort, alloc: Global, number: u64, row: &Row) -> Line<u64> 
             begin: row.1,
             end: u128::from(end),
             op: number,
-            reply: Some(Vec::from_slice(alloc, b"reply").expect(rt, "there is memory")),
+            reply: Some(reply.expect(rt, "a completed call has a reply")),
             soonest: row.1,
         },
         None => Line {
@@ -90,7 +104,7 @@ fn line_of(rt: &impl Abort, alloc: Global, number: u64, row: &Row) -> Line<u64> 
             begin: row.1,
             end: NEVER,
             op: number,
-            reply: None,
+            reply,
             soonest: row.1,
         },
     }
@@ -111,13 +125,23 @@ fn lines_of(rt: &impl Abort, alloc: Global, rows: &[Row]) -> Vec<Line<u64>> {
     lines
 }
 
+/// Returns whether a line has the reply of a row, or has none if the row has none.
+fn has_reply(line: &Line<u64>, row: &Row) -> bool {
+    match (&line.reply, row.3) {
+        (Some(text), Some(reply)) => text.as_slice() == reply.as_bytes(),
+        (None, None) => true,
+        (Some(_), None) | (None, Some(_)) => false,
+    }
+}
+
 /// Returns whether a line of a cut is the line of a row, as it stood.
 fn stood(line: &Line<u64>, row: &Row, number: u64, end: Option<u64>) -> bool {
     let ended = match end {
-        Some(end) => line.end == u128::from(end) && line.reply.is_some(),
-        None => line.end == NEVER && line.reply.is_some() == row.2.is_some(),
+        Some(end) => line.end == u128::from(end),
+        None => line.end == NEVER,
     };
     ended
+        && has_reply(line, row)
         && line.number == number
         && line.op == number
         && line.client == row.0
