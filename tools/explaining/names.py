@@ -17,10 +17,10 @@ LONG_FORK, STALE_READ, LOST_WRITE = "long fork", "stale read", "lost write"
 DUPLICATE, DOUBLE_BOOKING, TORN_READ = "duplicate execution", "double booking", "torn read"
 # Adya's codes, and those of Berenson and others.
 LOST_UPDATE_CODES, READ_SKEW_CODES = "P4", "G-single, A5A"
-# The strongest level that allows the anomaly is weaker than this one.
+# The weakest level that forbids each anomaly.
 FORBIDDEN_BY = {WRITE_SKEW: SERIALIZABLE, LOST_UPDATE: SNAPSHOT, READ_SKEW: SNAPSHOT, LONG_FORK: SNAPSHOT,
                 TORN_READ: COMMITTED}
-# Other causes that are told beside the name, the likeliest first, and the most of them.
+# Other causes that the text names, the likeliest first, and the largest number of them.
 OTHER_FAULTS, MOST_OTHER_FAULTS = (Fault.LOST, Fault.EARLY, Fault.TWICE, Fault.TORN), 2
 
 
@@ -48,7 +48,8 @@ class DeadEnd:
 
 
 MOST_ENDS, MOST_ORDERS = 24, 400
-# All orders of so many calls are shown; of more calls one for each state that the same calls leave.
+# Up to this number of calls all orders are shown. Of more calls, orders of the same calls that leave the same state
+# are shown once.
 MOST_IN_ALL_ORDERS = 4
 
 
@@ -146,7 +147,7 @@ def _of_snapshots(schedule: list[Step]) -> Kind:
 
 
 def _readers(edges: list[tuple[Step, Step, Row]]) -> str:
-    """That one of the readers of some edges that had to validate its reads."""
+    """The reader that had to validate its reads: of several, the last one that committed."""
     names = list(dict.fromkeys(str(reader.call.number) for reader, _, _ in edges))
     return names[0] if len(names) == 1 else f"whichever of {' and '.join(names)} committed last"
 
@@ -221,7 +222,8 @@ def _out_of_time(part: Part, wrong: Call, levels: Levels, causes: list[Cause]) -
 
 
 def _of_cause(part: Part, wrong: Call, levels: Levels, cause: Cause) -> Kind:
-    """The name of the fault of a single call. It has the codes of an anomaly only if a level may allow it."""
+    """The name of the fault of a single call. It has the codes of an anomaly unless a level that allows the anomaly
+    forbids the calls."""
     number, at = cause.call.number, wrong.number
     may_show = levels.allowed[COMMITTED] is not False
     when = f"{number} had returned before {at} began" if cause.call.precedes(wrong) else "they ran at the same time"
@@ -245,7 +247,7 @@ def _of_cause(part: Part, wrong: Call, levels: Levels, cause: Cause) -> Kind:
 
 
 def _others(part: Part, wrong: Call, kind: Kind, causes: list[Cause]) -> str:
-    """The other faults of single calls that give the same log, as far as these few calls tell."""
+    """A sentence on the other faults of single calls that give the same few replies."""
     if kind.name == UNKNOWN and kind.fault is None:
         return ""
     numbers = {call.number for call in part.calls}
@@ -294,8 +296,8 @@ def name(part: Part, wrong: Call, levels: Levels, causes: list[Cause], ends: lis
 
 
 def _agreed(kind: Kind, levels: Levels) -> Kind:
-    """The kind, if no level that forbids an anomaly of this name allows the calls; otherwise that of the schedule
-    of the strongest level that allows them, which does not keep their times."""
+    """Returns the kind unless a level that forbids its anomaly allows the calls. Otherwise the kind is that of a
+    schedule of the strongest level that allows them. This schedule does not keep their times."""
     strongest, forbids = levels.strongest_allowing(), FORBIDDEN_BY.get(kind.name)
     if forbids is None or not levels.allowed[forbids] or strongest not in levels.schedules:
         return kind
@@ -305,7 +307,7 @@ def _agreed(kind: Kind, levels: Levels) -> Kind:
 
 
 def _named_alone(part: Part, wrong: Call, levels: Levels, causes: list[Cause], ends: list[DeadEnd]) -> Kind:
-    """The kind, without other causes. No level that forbids an anomaly of this name allows the calls."""
+    """The kind without its alternatives. No level that allows the calls forbids the anomaly of its name."""
     kind = _agreed(_kind(part, wrong, levels, causes), levels)
     stuck = {call.number for end in ends for call, _ in end.stuck}
     readers = {call.number for call in part.calls if is_read_only(call)}

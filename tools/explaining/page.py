@@ -14,9 +14,9 @@ from .picture import picture, round_times
 from .program import MOST_BLOCKS
 from .tasks import Call
 from .timeline import Timeline
-from .words import (Told, changes_in_words, duration, extremes, headline, is_decided, level_words, merged,
-                    not_proved, proved, proved_parts, schedule_heading, state_in_words, step_in_words,
-                    verdict_in_words)
+from .words import (Told, changes_in_words, duration, extremes, headline, hint, is_decided, level_words, merged,
+                    not_proved, orders_heading, proved, proved_parts, schedule_heading, state_in_words,
+                    step_in_words, verdict_in_words)
 
 TEMPLATE = Path(__file__).resolve().parent / "page.html"
 MOST_ORDERS, MOST_TICKS = 6, 8
@@ -54,8 +54,8 @@ class Article:
         return Told(call, self.timeline.whole(call))
 
     def _hint(self) -> str:
-        hint = self.finding.kind.hint
-        return f" In a transactional memory: {escape(hint)}" if hint else ""
+        text = hint(self.finding)
+        return f" {escape(text)}" if text else ""
 
     # ---- lanes
 
@@ -144,7 +144,8 @@ class Article:
         before = "; ".join(state_in_words(self.finding))
         others = len(self.finding.few.openings) - 1
         more = len(self.finding.ends) - MOST_ORDERS
-        return (f"<h3>No order is right</h3><p>Before the calls: {escape(before)}."
+        heading = orders_heading(self.finding)
+        return (f"<h3>{heading[:1].upper()}{heading[1:]}</h3><p>Before the calls: {escape(before)}."
                 + (f" (Or one of {others} other states, which are as wrong.)" if others else "") + "</p>"
                 + _items(lines, "ul", "orders")
                 + (f'<p class="soft">{more} more orders fail as well.</p>' if more > 0 else ""))

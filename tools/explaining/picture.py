@@ -9,7 +9,7 @@ from .findings import Finding
 from .history import History
 from .tasks import Call
 from .timeline import Timeline
-from .words import Told, duration, headline, state_in_words
+from .words import Told, duration, headline, orders_heading, state_in_words
 
 WIDTH, MARGIN, LABELS = 960, 20, 92
 # Heights in a lane: of the bars, of the text of a call, and of the calls beside.
@@ -120,7 +120,8 @@ class Picture:
         self.text(at, label_y, label, "code")
 
     def orders(self, y: float) -> float:
-        self.text(MARGIN, y, "No order in time is right:")
+        heading = orders_heading(self.finding)
+        self.text(MARGIN, y, f"{heading[:1].upper()}{heading[1:]}:")
         lines = [(end, call, right) for end in self.finding.ends for call, right in end.stuck]
         for end, call, right in lines[:MOST_ORDERS]:
             y += LINE

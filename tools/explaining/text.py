@@ -12,8 +12,8 @@ from .findings import Finding, kinds
 from .history import History
 from .levels import Step
 from .tasks import Call
-from .words import (Told, allowed, duration, headline, is_decided, level_words, merged, not_proved, proved,
-                    schedule_heading, state_in_words, step_in_words, verdict_in_words)
+from .words import (Told, allowed, duration, headline, hint, is_decided, level_words, merged, not_proved,
+                    orders_heading, proved, schedule_heading, state_in_words, step_in_words, verdict_in_words)
 
 MOST_LINES, WIDTH, BAR = 30, 100, 46
 MOST_CALLS, MOST_ORDERS, MOST_STATES = 6, 2, 4
@@ -121,7 +121,7 @@ def _orders(finding: Finding, history: History) -> Section:
             start = f"{', then '.join(names)}, then {call.number}" if names else f"{call.number} first"
             pieces.append(Piece(_wrapped(f"{start}: it answered {was}, right is {other}", "  ", "    "),
                                 ORDERS if len(pieces) < MOST_ORDERS else MORE_ORDERS))
-    return Section(lambda missing: "no order in time is right:"
+    return Section(lambda missing: f"{orders_heading(finding)}:"
                    + (f" ({missing} more fail{'s'[:missing == 1]} as well)" if missing else ""), pieces)
 
 
@@ -167,8 +167,8 @@ def explanation(explained: list[Finding], history: History, verdict: list[str], 
     kind = finding.kind
     head = [Piece(_wrapped(f"illegal: {headline(finding)}"), ALWAYS),
             Piece(_wrapped(f"{kind.title()}: {kind.why}", "  ", ""), ALWAYS)]
-    if kind.hint:
-        head.append(Piece(_wrapped(f"In a transactional memory: {kind.hint}", "  ", ""), HINT))
+    if hint(finding):
+        head.append(Piece(_wrapped(hint(finding), "  ", ""), HINT))
     apart = " (the program's own search, apart from the calls above)" if is_decided(verdict[0]) else ""
     sections = [Section(None, head), _states(finding), _calls(finding, history), _orders(finding, history),
                 _schedule(finding), _levels(finding), _claims(finding, history, verdict[0]),

@@ -8,7 +8,7 @@ from .findings import Finding
 from .history import History
 from .levels import IN_TIME, LEVELS, STATEMENTS, Step
 from .model import Row, State, booked_item, is_item
-from .names import row_text
+from .names import MOST_IN_ALL_ORDERS, row_text
 from .reduction import LEAST_STAND_IN, is_stand_in, rank
 from .tasks import KINDS, Call, Item, Task, is_probe, item_text, read_trip, read_update
 
@@ -208,8 +208,22 @@ def extremes(finding: Finding) -> str:
 
 
 def allowed(finding: Finding) -> str:
-    """How the levels that allow the calls allow them."""
+    """The word for the levels that allow the calls. It says whether they are allowed at their times."""
     return "allowed" + ("" if finding.levels.keeps_times() else ", without their times")
+
+
+def hint(finding: Finding) -> str:
+    """Where the author of a transactional memory looks first; empty if the schedule does not keep the times."""
+    kind = finding.kind
+    if not kind.hint or finding.levels.orders.get(kind.level) != IN_TIME:
+        return ""
+    return f"In a transactional memory: {kind.hint}"
+
+
+def orders_heading(finding: Finding) -> str:
+    """Which orders of the calls are listed."""
+    are_all = len(finding.few.calls) <= MOST_IN_ALL_ORDERS
+    return "no order in time is right" + ("" if are_all else " (of several that leave the same state one is shown)")
 
 
 def schedule_heading(finding: Finding) -> str:
