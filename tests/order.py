@@ -11,6 +11,7 @@ import random
 import subprocess
 import sys
 import tempfile
+from collections import Counter
 from pathlib import Path
 
 sys.path.insert(0, str(Path(__file__).resolve().parent.parent / "tools"))
@@ -19,6 +20,8 @@ from explaining.tasks import read_task
 from histories import REPLIES, interleaved, unconfirmed
 
 BLOCKS, MANY_BLOCKS, HISTORIES, NEVER = 7, 1 << 18, 2_000, 1 << 64
+# Illegal parts, by the number of states before (3 for more) and by whether a call was not completed then.
+COUNTED, WRONG_AT_LAST = Counter(), 500
 FAULTS = {"": "bad-call", "1 2 3 audit": "bad-call", "x 2 3 newcust 1 -> true": "bad-number",
           "1 2 3 fly -> true": "bad-command", "1 2 - fly -> true": "bad-command",
           "1 2 3 newcust 1 -> ?": "bad-call", "x" * 4097: "long-line", "\t": "bad-byte"}
@@ -112,6 +115,19 @@ def damaged(draw, lines):
     return lines
 
 
+def wrong_at_last(draw):
+    """A history whose last call gives a reply that no state explains. Some calls before it are pending or
+    undetermined."""
+    lines = drawn_history(draw, 6)
+    last = max((time for line in lines for time in read(line)[1:3] if time < NEVER), default=0)
+    for client in range(10, 10 + draw.randint(0, 6)):
+        task = drawn_task(draw)
+        reply = draw.choice(["?", "?", "true", unconfirmed(draw, answer({}, task)[0])])
+        lines.insert(draw.randint(0, len(lines)), f"{client} {draw.randint(0, last)} - {task} -> {reply}")
+    task = draw.choice(["bill 1", "free car 1", "bill 2", "free car 2"])
+    return mixed(draw, [*lines, f"20 {last} {last + draw.randint(0, 5)} {task} -> 77"])
+
+
 def first_wrong(lines):
     """What is written of the first line that is no call or not in turn, or none."""
     ended = {}
@@ -135,24 +151,47 @@ class Search:
         self.names, self.remembers = sorted(self.queues), len(lines) > 8
         self.seen, self.most, self.is_found = set(), 0, False
 
-    def go(self, done, state, placed):
-        heads = [self.queues[name][at] for name, at in zip(self.names, done) if at < len(self.queues[name])]
-        self.most = max(self.most, placed)
-        if all(self.calls[place][2] == NEVER for place in heads):
-            self.is_found = True
-        key = (done, frozenset(state.items()))
-        if self.is_found or key in self.seen:
-            return
-        if self.remembers:
-            self.seen.add(key)
+    def heads(self, done):
+        return [self.queues[name][at] for name, at in zip(self.names, done) if at < len(self.queues[name])]
+
+    def is_end(self, done):
+        """Whether no completed call is left."""
+        return all(self.calls[place][2] == NEVER for place in self.heads(done))
+
+    def steps(self, done, state):
+        """The calls that may come next and give their replies: what is done after each, its state, and whether it is
+        completed."""
+        heads = self.heads(done)
         for number, name in enumerate(self.names):
             if done[number] == len(self.queues[name]):
                 continue
             _, begin, end, task, reply = self.calls[self.queues[name][done[number]]]
             said, after = answer(state, task, self.blocks)
             if all(begin <= self.calls[place][2] for place in heads) and reply in (None, said):
-                more = tuple(at + (other == number) for other, at in enumerate(done))
-                self.go(more, after, placed + (end < NEVER))
+                yield tuple(at + (other == number) for other, at in enumerate(done)), after, end < NEVER
+
+    def go(self, done, state, placed):
+        self.most = max(self.most, placed)
+        self.is_found = self.is_found or self.is_end(done)
+        key = (done, frozenset(state.items()))
+        if self.is_found or key in self.seen:
+            return
+        if self.remembers:
+            self.seen.add(key)
+        for more, after, is_counted in self.steps(done, state):
+            self.go(more, after, placed + is_counted)
+
+    def states(self):
+        """The states that all orders leave, from the empty state on."""
+        todo, seen, left = [((0,) * len(self.names), {})], set(), set()
+        while todo:
+            done, state = todo.pop()
+            key = (done, frozenset(state.items()))
+            if key not in seen:
+                seen.add(key)
+                todo += [(more, after) for more, after, _ in self.steps(done, state)]
+                left |= {key[1]} if self.is_end(done) else set()
+        return left
 
 
 class Part:
@@ -216,9 +255,10 @@ def has_order(lines):
     return search.is_found
 
 
-def check_part(lines, told, said):
+def check_part(lines, told, states, said):
     """The named part has no order, by the search that stands here, and the named call is the first at whose end the
-    part has none. Returns the lines of the part by their numbers."""
+    part has none. The number of states before that end is right; it is not told if the end is at time 0. Returns the
+    lines of the part by their numbers."""
     _, _, number, *names = told.split(" ")
     numbered = Part(lines, names).lines()
     part = list(numbered.values())
@@ -226,6 +266,10 @@ def check_part(lines, told, said):
     first = next((end for end in ends if not has_order(cut(part, end))), None)
     if has_order(part) or read(lines[int(number) - 1])[2] != first:
         sys.exit(f"{said}; the part has an order, or first has none at {first}")
+    left = Search(list(cut(part, first - 1)), MANY_BLOCKS).states() if first else ()
+    if states != ([f"states {len(left)}"] if first else []):
+        sys.exit(f"{said}; {len(left)} states are possible before {first}")
+    COUNTED[min(len(left), 3), any(not is_completed(line) for line in cut(part, first - 1))] += 1
     return numbered
 
 
@@ -281,9 +325,11 @@ def compare(program, lines, ending):
             sys.exit(f"{said}; there is an order, and this is none")
         return "legal"
     told, *stuck = out.splitlines()
+    states = [line for line in stuck[-1:] if line.startswith("states ")]
+    stuck = stuck[:len(stuck) - len(states)]
     numbered = dict(enumerate(lines, 1))
     if status == 1 and told.startswith("illegal part ") and stuck:
-        numbered = check_part(lines, told, said)
+        numbered = check_part(lines, told, states, said)
     elif status != 1 or told != f"illegal order {search.most}" or not stuck:
         sys.exit(f"{said}; no order is legal, and the longest has {search.most} calls")
     for line in stuck:
@@ -349,8 +395,13 @@ def main():
             lines = damaged(draw, lines)
         how = compare(program, lines, "\n" if lines and draw.random() < 0.8 or lines[-1:] == [""] else "")
         told[how] = told.get(how, 0) + 1
+    for _ in range(WRONG_AT_LAST):
+        compare(program, wrong_at_last(draw), "\n")
     held(program)
     hostile(program)
+    few = [how for how in [(1, False), (1, True), (2, True), (3, True)] if COUNTED[how] < 10]
+    if few or sum(COUNTED.values()) < 300:
+        sys.exit(f"order: too few illegal parts with numbers of states {few}: {COUNTED}")
     print("order: " + ", ".join(f"{name} {count}" for name, count in sorted(told.items())))
 
 

@@ -177,7 +177,7 @@ order_below want n steps given bytes text runs f = go f.found f.is f.answered f.
       text_is = t;
     }
     go (NoOrder most stuck) is a t = absurd (illegal_not a)
-    go (IllegalPart line customers items stuck) is a t = absurd (illegal_not a)
+    go (IllegalPart line customers items stuck states) is a t = absurd (illegal_not a)
     go (Undecided most) is a t = absurd (undecided_not a)
 
 module _ (n steps : ℕ) (history : History) (held : IsHeld history) (few : n ≤ MOST_BLOCKS) (bytes : List ℕ)

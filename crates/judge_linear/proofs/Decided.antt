@@ -16,6 +16,6 @@ outcome_decides show kept n steps bytes result text f calls l =
     go (Wrong verdict) is = inr (verdict, first_of bytes verdict is)
     go (Order numbers) is = order_is_at_level kept n steps bytes numbers is calls l
     go (NoOrder most stuck) is = inl (no_order_means_none kept n steps bytes most stuck is calls l)
-    go (IllegalPart line customers items stuck) is =
-        inl (illegal_part_means_none show kept n steps bytes line customers items stuck is calls l)
+    go (IllegalPart line customers items stuck states) is =
+        inl (illegal_part_means_none show kept n steps bytes line customers items stuck states is calls l)
     go (Undecided most) is = tt

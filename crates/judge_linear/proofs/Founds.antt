@@ -359,7 +359,7 @@ module _ (want : Level) (lines kept : List (Line Task)) (k : AreKeptLines lines 
   pub finds_part : (n given left : ℕ) (part : declared.IllegalPart) (text : List ℕ) → n ≤ MOST_BLOCKS →
       RunsBefore want n bytes read.calls given → HasNoOrderOf kept part →
       text ≡ part_text part.wrong.line part.scope.customers.items part.scope.items.items
-      (told_by (numbers_of part.wrong.part.calls.lines.items) part.wrong.part.stuck.items) →
+      (told_by (numbers_of part.wrong.part.calls.lines.items) part.wrong.part.stuck.items) part.wrong.states →
       FindsText want n (given + left) bytes outcome.Illegal text
   finds_part n given left part text few before h e =
       let same = kept_same in
@@ -372,7 +372,8 @@ module _ (want : Level) (lines kept : List (Line Task)) (k : AreKeptLines lines 
       let tell : Stuck Reply → ℕ × Reply = λ one. (get_or (numbers_of cuts) one.place 0, one.expected) in
       let each = part_lines scope lines kept h.from sorted k.each h.numbers h.sorted in
       record {
-        found = IllegalPart part.wrong.line scope.customers.items scope.items.items (told_by (numbers_of cuts) found);
+        found = IllegalPart part.wrong.line scope.customers.items scope.items.items (told_by (numbers_of cuts) found)
+            part.wrong.states;
         is = record {
           blocks = few;
           calls = read.calls;
@@ -411,6 +412,7 @@ module _ (want : Level) (lines kept : List (Line Task)) (k : AreKeptLines lines 
             told = refl;
             some = subst (λ m. 1 ≤ m) (sym (length-map found tell)) then.some;
           };
+          states_before = h.wrong.states_before;
         };
         takes = takes n given left (given + left) (omega arith) before
             (record { made = 0; within = omega arith; run = tt });

@@ -1,19 +1,25 @@
 -- What is found is right.
-use Rattle.std.proofs.Common.{◌≡◌, true, Ok, Result, List, [], ◌∷◌, map, refl, sym, ap, ◌∙◌, subst}
+use Rattle.std.proofs.Common.{◌≡◌, ◌<◌, ◌≤◌, true, Ok, Result, List, [], ◌∷◌, map, refl, sym, ap, ◌∙◌, subst, arith}
 use Rattle.judge_calls.specs.declared.fault.CallFault.{CallFault}
 use Rattle.judge_calls.specs.Call.{Call}
 use Rattle.judge_object.specs.declared.level.Level.{Level}
 use Rattle.judge_object.specs.declared.level.Level.TheVariants as level
 use Rattle.judge_object.specs.Levels.{IsAt, keeps_all_of}
+use Rattle.judge_object.specs.declared.span.TheConstants.{NEVER}
+use Rattle.judge_object.specs.Cut.{cut, CutIsLinearizable, CutOfCut}
+use Rattle.judge_object.specs.Orders.{IsLinearizable}
 use Rattle.judge_object.specs.Relaxed.{relax}
 use Rattle.judge_object.proofs.Levels.{linearizable_is_sequential, sequential_is_serializable}
 use Rattle.judge_object.proofs.Levels.{relaxed_is_at, at_is_relaxed}
-use Rattle.judge_linear.specs.Laws.{OrderIsAtLevel, NoOrderMeansNone, IllegalPartMeansNone}
+use Rattle.judge_linear.specs.Laws.{OrderIsAtLevel, NoOrderMeansNone, IllegalPartMeansNone, StatesShowFirstEnd}
 use Rattle.judge_linear.specs.Found.{relaxed_numbered}
 use Rattle.judge_reservations.specs.declared.scope.Scope.{Scope}
 use Rattle.judge_reservations.specs.Laws.{IllegalPartsShow}
 use Rattle.judge_search.proofs.Judged.{none_given}
 use Rattle.judge_reservations.specs.Reserving.{reserving}
+use Rattle.judge_linear.proofs.PossibleStates.{first_in}
+use Rattle.vac_model.specs.declared.limits.TheConstants.{MOST_BLOCKS}
+use Rattle.vac_model.specs.declared.tasks.Task.{Task}
 use Rattle.vac_model.specs.State.{State, empty_state}
 
 pub tail_same : (a b : Result Call CallFault) (xs ys : List (Result Call CallFault)) → a ∷ xs ≡ b ∷ ys →
@@ -58,10 +64,26 @@ no_order_means_none kept n steps bytes most stuck h calls l some =
     h.none (subst (IsAt reserving kept (empty_state n)) (calls_same calls h.calls (sym l ∙ h.are_kept.listed)) some)
 
 pub illegal_part_means_none : ((scope : Scope) → IllegalPartsShow scope) → IllegalPartMeansNone
-illegal_part_means_none show kept n steps bytes line customers items stuck h calls l some =
+illegal_part_means_none show kept n steps bytes line customers items stuck states h calls l some =
     let sorted = relaxed_numbered kept h.calls h.numbers in
     let own = subst (IsAt reserving kept (empty_state n))
     (calls_same calls h.calls (sym l ∙ h.are_kept.listed)) some in
     none_given reserving (empty_state n) (relax kept h.calls) sorted h.are_kept.merges
     (show h.scope n sorted h.blocks h.is_scope.parts h.none)
     (at_is_relaxed reserving kept (empty_state n) h.calls h.are_kept.last own)
+
+-- the parts had an order just before the end if the number of states is given, and so at each earlier moment
+pub states_show_first_end : CutOfCut Task → CutIsLinearizable reserving → StatesShowFirstEnd
+states_show_first_end again linearizable kept n bytes line customers items stuck count found earlier less =
+    let had = found.states_before in
+    let next = had.next in
+    let early = found.early in
+    let number = had.had.number in
+    let some = had.had.some in
+    let state = first_in had.had.states (omega arith) in
+    let left = (had.had.are state.0).0 state.1 in
+    let within : earlier ≤ had.before = omega arith in
+    let soon : earlier < NEVER = omega arith in
+    subst (IsLinearizable reserving (empty_state MOST_BLOCKS)) (again earlier had.before found.parts within soon)
+    (linearizable (empty_state MOST_BLOCKS) earlier (cut had.before found.parts) soon
+    (record { order = left.order; orders = left.orders; linearization = left.linearization }))

@@ -11,3 +11,4 @@ pub mod Written
 pub mod WrongLines
 pub mod Decided
 pub mod Below
+pub mod PossibleStates

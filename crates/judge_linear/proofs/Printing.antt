@@ -1,6 +1,6 @@
 -- The texts of lines and of calls that are stuck, one after the other.
 use Rattle.std.proofs.Common.{◌≡◌, ℕ, ◌+◌, ◌<◌, suc, zero, List, [], ◌∷◌, ◌++◌, length, map, flat_map, get_or}
-use Rattle.std.proofs.Common.{take, sym, ap, ◌∙◌, arith, append-nil, append_assoc, codes, decimal}
+use Rattle.std.proofs.Common.{take, sym, ap, ◌∙◌, arith, append-nil, append_assoc, codes, decimal, Option}
 use Rattle.std.specs.Prelude.{All}
 use Rattle.std.proofs.lemmas.List.Elements.{All-head, All-tail}
 use Rattle.std.proofs.lemmas.List.{take_more, map-append}
@@ -10,7 +10,7 @@ use Rattle.vac_lines.specs.Script.{as_line}
 use Rattle.judge_object.specs.declared.line.Line.{Line}
 use Rattle.judge_search.specs.declared.stuck.Stuck.{Stuck}
 use Rattle.judge_linear.specs.Reading.{texts_of, numbers_of}
-use Rattle.judge_linear.specs.Found.{placed_text, stuck_text, told_by, scope_text, part_text}
+use Rattle.judge_linear.specs.Found.{placed_text, stuck_text, told_by, scope_text, states_text, part_text}
 use Rattle.vac_model.specs.declared.tasks.Task.{Task}
 use Rattle.vac_model.specs.State.{Place}
 
@@ -74,13 +74,15 @@ abbrev pub AreIn : List (Line Task) → List (Stuck Reply) → Type 0
 AreIn lines found = All (λ one. one.place < length lines) found
 
 -- a part is printed, of which the calls that are stuck are in the lines
-pub part_printed : (old mid new : List ℕ) (number : ℕ) (lines : List (Line Task)) (found : List (Stuck Reply))
-    (customers : List ℕ) (items : List Place) →
+pub part_printed : (old mid all_stuck new : List ℕ) (number : ℕ) (lines : List (Line Task)) (found : List (Stuck Reply))
+    (customers : List ℕ) (items : List Place) (states : Option ℕ) →
     mid ≡ old ++ as_line (codes "illegal part " ++ decimal number ++ scope_text customers items) →
-    (AreIn lines found → new ≡ mid ++ flat_map stuck_text (told_by (numbers_of lines) found)) →
-    AreIn lines found → new ≡ old ++ part_text number customers items (told_by (numbers_of lines) found)
-part_printed old mid new number lines found customers items e f all =
-    let told = told_by (numbers_of lines) found in
-    f all ∙ ap (λ t. t ++ flat_map stuck_text told) e
-    ∙ append_assoc old (as_line (codes "illegal part " ++ decimal number ++ scope_text customers items))
-    (flat_map stuck_text told)
+    (AreIn lines found → all_stuck ≡ mid ++ flat_map stuck_text (told_by (numbers_of lines) found)) →
+    new ≡ all_stuck ++ states_text states → AreIn lines found →
+    new ≡ old ++ part_text number customers items (told_by (numbers_of lines) found) states
+part_printed old mid all_stuck new number lines found customers items states e f g all =
+    let told = flat_map stuck_text (told_by (numbers_of lines) found) in
+    let line = as_line (codes "illegal part " ++ decimal number ++ scope_text customers items) in
+    let last = states_text states in
+    g ∙ ap (λ t. t ++ last) (f all ∙ ap (λ t. t ++ told) e ∙ append_assoc old line told)
+    ∙ append_assoc old (line ++ told) last

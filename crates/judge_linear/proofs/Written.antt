@@ -130,7 +130,7 @@ legal_text summary n steps bytes text f = go f.found f.is f.answered f.text_is
     go (Order numbers) is a t = legal_order summary n bytes text numbers
         (subst (λ shown. IsOrdered shown n bytes numbers) (strongest is.shown is.keeps) is.ordered) t
     go (NoOrder most stuck) is a t = absurd (illegal_not a)
-    go (IllegalPart line customers items stuck) is a t = absurd (illegal_not a)
+    go (IllegalPart line customers items stuck states) is a t = absurd (illegal_not a)
     go (Undecided most) is a t = absurd (undecided_not a)
 
 -- a text that was read

@@ -237,7 +237,8 @@ first_wrong_is_written kept n steps bytes result text verdict finds first =
     go (Wrong other) is a t = (a, t ∙ ap verdict_text (some_same other verdict (sym is ∙ wrong)))
     go (Order numbers) is a t = absurd (none_some verdict (sym is.ordered.right ∙ wrong))
     go (NoOrder most stuck) is a t = absurd (none_some verdict (sym is.are_kept.right ∙ wrong))
-    go (IllegalPart line customers items stuck) is a t = absurd (none_some verdict (sym is.are_kept.right ∙ wrong))
+    go (IllegalPart line customers items stuck states) is a t =
+        absurd (none_some verdict (sym is.are_kept.right ∙ wrong))
     go (Undecided most) is a t = absurd (none_some verdict (sym is.are_kept.right ∙ wrong))
 
 pub wrong_or_in_turn : WrongOrInTurn

@@ -1,6 +1,6 @@
 -- The result for a history of which only each client's own order is known, and the text of the
 -- result.
-use Rattle.std.specs.Prelude.{◌≡◌, ◌<◌, ◌≤◌, ◌+◌, ◌-◌, ⊤, ℕ, Bool, true, Some, None, All, List, [], ◌∷◌, ◌++◌, map, flat_map, length, get_or, slice_get, codes, decimal, Option}
+use Rattle.std.specs.Prelude.{◌≡◌, ◌<◌, ◌≤◌, ◌+◌, ◌-◌, ⊤, ℕ, Bool, true, Some, None, All, List, [], ◌∷◌, ◌++◌, map, flat_map, length, get_or, slice_get, codes, decimal, Option, IfSome}
 use Rattle.vac_model.specs.declared.items.Kind.{Kind}
 use Rattle.vac_model.specs.declared.items.Kind.TheVariants.{Car, Flight, Room}
 use Rattle.vac_model.specs.declared.limits.TheConstants.{MOST_BLOCKS}
@@ -31,6 +31,7 @@ use Rattle.judge_search.specs.Walking.{AreDistinct}
 use Rattle.judge_search.specs.Stuck.{AreStuck}
 use Rattle.judge_linear.specs.Reading.{first_wrong, call_at}
 use Rattle.judge_linear.specs.Moments.{part_then}
+use Rattle.judge_linear.specs.Possible.{HadStatesBefore}
 use Rattle.judge_object.specs.Call.{is_completed}
 use Rattle.judge_object.specs.declared.span.TheConstants.{NEVER}
 
@@ -38,13 +39,14 @@ use Rattle.judge_object.specs.declared.span.TheConstants.{NEVER}
 -- order, with the largest number of completed calls that can be placed and the lines of the calls
 -- that are then blocked, each with the expected reply; a line at the end of whose call a part had
 -- no order, on a scope of some customers and items, with the lines of the calls whose parts were
--- then blocked; or undecided
+-- then blocked, and the number of states that were possible just before, if it is known; or
+-- undecided
 pub data FoundOfText : Type 0 where
   Wrong : (verdict : Verdict) → FoundOfText
   Order : (numbers : List ℕ) → FoundOfText
   NoOrder : (most : ℕ) → (stuck : List (ℕ × Reply)) → FoundOfText
   IllegalPart : (line : ℕ) → (customers : List ℕ) → (items : List Place) →
-      (stuck : List (ℕ × Reply)) → FoundOfText
+      (stuck : List (ℕ × Reply)) → (states : Option ℕ) → FoundOfText
   Undecided : (most : ℕ) → FoundOfText
 
 -- the calls of the lines with these numbers, in this order
@@ -169,12 +171,14 @@ pub record AreBlocked (parts : List Call) (numbers : List ℕ) (stuck : List (�
 -- these customers and items, and no order of the parts is a linearization, for a system of the
 -- greatest number of blocks. Nor was one at the end of the given line's part, which is completed:
 -- no order of the parts, as they stood then, is a linearization. Of the parts as they stood then
--- the blocked ones are given, each by the number of its line with the reply of the manager
+-- the blocked ones are given, each by the number of its line with the reply of the manager. If a
+-- number of states is given, exactly that many states were possible just before that end
 -- Not said: in which order the blocked calls are given. Which items of the scope only its customers
--- book, and which of its customers only book its items. That the parts had an order before the end
--- of the given line's part; which line is given if several parts ended at the moment.
+-- book, and which of its customers only book its items. That the number of states is given; that
+-- the parts had an order before the end of the given line's part, unless the number of states is
+-- given; which line is given if several parts ended at the moment.
 pub record HasIllegalPart (kept : Level) (n : ℕ) (bytes : List ℕ) (line : ℕ) (customers : List ℕ)
-    (items : List Place) (stuck : List (ℕ × Reply)) : Type 0 where
+    (items : List Place) (stuck : List (ℕ × Reply)) (states : Option ℕ) : Type 0 where
   pub blocks : n ≤ MOST_BLOCKS
   pub calls : List Call
   pub numbers : List ℕ
@@ -196,6 +200,7 @@ pub record HasIllegalPart (kept : Level) (n : ℕ) (bytes : List ℕ) (line : �
   pub merges_then : IsMerge (cut moment parts) parts_then
   pub are_then : ArePartsThen scope moment (relax kept calls) numbers_then parts_then
   pub blocked : AreBlocked parts_then numbers_then stuck
+  pub states_before : IfSome states (HadStatesBefore parts moment)
 
 -- an exact search of the calls of a text as they are given, for a system of n blocks, can make this
 -- number of steps
@@ -226,7 +231,8 @@ pub record IsLeftOpen (kept : Level) (n : ℕ) (bytes : List ℕ) (steps most : 
 
 -- an exact search of the calls from a state on can make a number of steps, at most `steps`
 -- Not said: that the search whose result is given made this number. A search can always make no
--- step, so nothing is said of the time that the search took, nor of the search by heuristics.
+-- step, so nothing is said of the time that the search took, nor of the search by heuristics, nor
+-- of the count of states, which has a bound of its own.
 pub record RunsWithin (s : State) (calls : List Call) (steps : ℕ) : Type 0 where
   pub made : ℕ
   pub within : made ≤ steps
@@ -256,8 +262,8 @@ abbrev pub IsFound : Level → ℕ → ℕ → List ℕ → FoundOfText → Type
 IsFound kept n steps bytes (Wrong verdict) = first_wrong bytes ≡ Some verdict
 IsFound kept n steps bytes (Order numbers) = IsOrderedAtLeast kept n bytes numbers
 IsFound kept n steps bytes (NoOrder most stuck) = HasNone kept n bytes most stuck
-IsFound kept n steps bytes (IllegalPart line customers items stuck) =
-    HasIllegalPart kept n bytes line customers items stuck
+IsFound kept n steps bytes (IllegalPart line customers items stuck states) =
+    HasIllegalPart kept n bytes line customers items stuck states
 IsFound kept n steps bytes (Undecided most) = IsLeftOpen kept n bytes steps most
 
 -- the text of the line with this number, the first line having number 1
@@ -296,12 +302,17 @@ item_text item = kind_text item.0 ++ decimal item.1
 abbrev pub scope_text : List ℕ → List Place → List ℕ
 scope_text customers items = flat_map customer_text customers ++ flat_map item_text items
 
+-- the line of the number of possible states, if it is known
+abbrev pub states_text : Option ℕ → List ℕ
+states_text None = []
+states_text (Some number) = as_line (codes "states " ++ decimal number)
+
 -- the text of the result that a part had no order at the end of the call of a line, with the lines
--- of the blocked calls
-abbrev pub part_text : ℕ → List ℕ → List Place → List (ℕ × Reply) → List ℕ
-part_text line customers items stuck =
+-- of the blocked calls and of the number of states that were possible just before
+abbrev pub part_text : ℕ → List ℕ → List Place → List (ℕ × Reply) → Option ℕ → List ℕ
+part_text line customers items stuck states =
     as_line (codes "illegal part " ++ decimal line ++ scope_text customers items)
-    ++ flat_map stuck_text stuck
+    ++ flat_map stuck_text stuck ++ states_text states
 
 -- the text of the result that the question is undecided
 abbrev pub open_text : ℕ → List ℕ
@@ -312,7 +323,8 @@ abbrev pub found_text : List ℕ → FoundOfText → List ℕ
 found_text bytes (Wrong verdict) = verdict_text verdict
 found_text bytes (Order numbers) = order_text bytes numbers
 found_text bytes (NoOrder most stuck) = none_text most stuck
-found_text bytes (IllegalPart line customers items stuck) = part_text line customers items stuck
+found_text bytes (IllegalPart line customers items stuck states) =
+    part_text line customers items stuck states
 found_text bytes (Undecided most) = open_text most
 
 -- the lines with the texts at these positions of a list

@@ -1,8 +1,9 @@
 -- The result is correct: the history is at the level, or it is not. The text that is written for a
 -- linearization (Herlihy and Wing, TOPLAS 1990) is legal for a judge that trusts the order of the
 -- lines.
-use Rattle.std.specs.Prelude.{◌≡◌, ◌⊎◌, ⊤, ℕ, true, Option, IfSome, List, reverse}
+use Rattle.std.specs.Prelude.{◌≡◌, ◌<◌, ◌⊎◌, ⊤, ℕ, true, Option, Some, IfSome, List, reverse}
 use Rattle.std.specs.Io.KnownBytes.{Appends}
+use Rattle.vac_model.specs.declared.limits.TheConstants.{MOST_BLOCKS}
 use Rattle.vac_model.specs.State.{Place, empty_state}
 use Rattle.vac_model.specs.declared.replies.Reply.{Reply}
 use Rattle.judge_calls.specs.declared.verdict.Verdict.{Verdict}
@@ -16,9 +17,10 @@ use Rattle.judge_linear.specs.declared.ordering.Outcome.TheVariants as outcome
 use Rattle.judge_object.specs.declared.level.Level.{Level}
 use Rattle.judge_object.specs.declared.level.Level.TheVariants as level
 use Rattle.judge_object.specs.Levels.{IsAt}
-use Rattle.judge_object.specs.Orders.{IsOrderOf}
+use Rattle.judge_object.specs.Cut.{cut}
+use Rattle.judge_object.specs.Orders.{IsOrderOf, IsLinearizable}
 use Rattle.judge_reservations.specs.Reserving.{reserving}
-use Rattle.judge_linear.specs.Found.{Order, NoOrder, IllegalPart, IsFound}
+use Rattle.judge_linear.specs.Found.{Order, NoOrder, IllegalPart, IsFound, HasIllegalPart}
 use Rattle.judge_linear.specs.Ordering.{FindsText, HasOrdered}
 use Rattle.judge_linear.specs.Wrongs.{IsFirstWrongLine}
 
@@ -37,9 +39,19 @@ NoOrderMeansNone = (kept : Level) (n steps : ℕ) (bytes : List ℕ) (most : ℕ
 -- if the result is that a part has no order, the history is not at the level
 abbrev pub IllegalPartMeansNone : Type 0
 IllegalPartMeansNone = (kept : Level) (n steps : ℕ) (bytes : List ℕ) (line : ℕ)
-    (customers : List ℕ) (items : List Place) (stuck : List (ℕ × Reply)) →
-    IsFound kept n steps bytes (IllegalPart line customers items stuck) →
+    (customers : List ℕ) (items : List Place) (stuck : List (ℕ × Reply)) (states : Option ℕ) →
+    IsFound kept n steps bytes (IllegalPart line customers items stuck states) →
     (calls : List Call) → Lists bytes calls → IsAt reserving kept (empty_state n) calls → ⊥
+
+-- if a part has no order and the number of states is given, each cut of the parts at an earlier
+-- moment is linearizable. So the end of the given line's part is the first at which the parts have
+-- no order
+abbrev pub StatesShowFirstEnd : Type 0
+StatesShowFirstEnd = (kept : Level) (n : ℕ) (bytes : List ℕ) (line : ℕ) (customers : List ℕ)
+    (items : List Place) (stuck : List (ℕ × Reply)) (count : ℕ)
+    (found : HasIllegalPart kept n bytes line customers items stuck (Some count)) (earlier : ℕ) →
+    earlier < found.moment →
+    IsLinearizable reserving (empty_state MOST_BLOCKS) (cut earlier found.parts)
 
 -- the history of these calls, with this text, is as an outcome says of a level: at the level; or
 -- not at the level, unless a line is wrong

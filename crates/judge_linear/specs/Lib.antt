@@ -1,5 +1,6 @@
 pub mod Reading
 pub mod Moments
+pub mod Possible
 pub mod Found
 pub mod Ordering
 pub mod Laws

@@ -1,6 +1,6 @@
 -- The calls of a part of a history as they stood at a moment.
 use Rattle.std.specs.Prelude.{◌≡◌, ◌<◌, ◌≤◌, ℕ, Bool, true, Option, Some, List, length, map}
-use Rattle.std.specs.Prelude.{slice_get}
+use Rattle.std.specs.Prelude.{slice_get, IfSome}
 use Rattle.std.specs.List.{filter_map}
 use Rattle.std.specs.Option.{option_and_then}
 use Rattle.vac_model.specs.declared.limits.TheConstants.{MOST_BLOCKS}
@@ -23,6 +23,7 @@ use Rattle.judge_search.specs.Stuck.{AreStuck}
 use Rattle.judge_search.specs.Walk.{InTurn}
 use Rattle.judge_linear.specs.declared.moments.CutPart.{CutPart}
 use Rattle.judge_linear.specs.declared.moments.WrongPart.{WrongPart}
+use Rattle.judge_linear.specs.Possible.{HadStatesBefore}
 
 -- the part of a call on a scope, as the part stood at a moment
 abbrev pub part_then : Scope → ℕ → Call → Option Call
@@ -74,7 +75,9 @@ pub record HadNoOrderAt (lines : List (Line Task)) (place : ℕ) (part : CutPart
   pub ends : EndsAt lines place part.moment
   pub none : HadNoOrder lines part
 
--- the calls of lines, as they stood at the end of the call with the given number, had no order
+-- the calls of lines, as they stood at the end of the call with the given number, had no order. If
+-- a number of states is given, that many were possible just before
 pub record IsWrongPart (lines : List (Line Task)) (wrong : WrongPart) : Type 0 where
   pub ended : IsEndIn lines wrong.line wrong.part.moment
   pub none : HadNoOrder lines wrong.part
+  pub states_before : IfSome wrong.states (HadStatesBefore (calls_of lines) wrong.part.moment)

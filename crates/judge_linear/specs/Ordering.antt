@@ -15,7 +15,7 @@ abbrev pub outcome_of : FoundOfText → Outcome
 outcome_of (Wrong verdict) = outcome.Illegal
 outcome_of (Order numbers) = outcome.Ordered
 outcome_of (NoOrder most stuck) = outcome.Illegal
-outcome_of (IllegalPart line customers items stuck) = outcome.Illegal
+outcome_of (IllegalPart line customers items stuck states) = outcome.Illegal
 outcome_of (Undecided most) = outcome.Undecided
 
 -- the text has some result at a level, of searches that may make `steps` steps; its output is this

@@ -3,7 +3,7 @@
 ghost use Rattle.std.specs.Prelude.{◌≡◌, ◌++◌, ◌<◌, All, OnOk, codes, decimal, flat_map, length};
 ghost use Rattle.vac_lines.specs.Script.{as_line};
 ghost use Rattle.judge_linear.specs.Found.{placed_text, stuck_text, none_text, open_text, told_by};
-ghost use Rattle.judge_linear.specs.Found.{customer_text, kind_text, item_text, scope_text, part_text};
+ghost use Rattle.judge_linear.specs.Found.{customer_text, kind_text, item_text, scope_text, states_text, part_text};
 ghost use Rattle.judge_linear.specs.Reading.{texts_of, numbers_of};
 
 use crate::part::IllegalPart;
@@ -145,18 +145,29 @@ fn print_part(
     out.extend_from_slice(b"\n")
 }
 
+/// Appends the line of the number of possible states, if the number is known.
+fn print_states(states: Option<u64>, out: &mut Vec<u8>) -> Result<(), AllocError>
+    ensures { OnOk result (out.new.items ≡ out.old.items ++ states_text states) }
+{
+    match states {
+        Some(number) => append_count(out, b"states ", number),
+        None => Ok(()),
+    }
+}
+
 /// Appends the result that a part of the history has no order.
 pub(crate) fn print_illegal_part(part: &IllegalPart, out: &mut Vec<u8>) -> Result<(), AllocError>
     ensures { OnOk result (All (λ one. one.place < length part.now.wrong.part.calls.lines.items)
         part.now.wrong.part.stuck.items → out.new.items ≡ out.old.items
         ++ part_text part.now.wrong.line part.now.scope.customers.items part.now.scope.items.items
         (told_by (numbers_of part.now.wrong.part.calls.lines.items)
-        part.now.wrong.part.stuck.items)) }
+        part.now.wrong.part.stuck.items) part.now.wrong.states) }
 {
     let (customers, items) = (part.scope.customers.as_slice(), part.scope.items.as_slice());
     print_part(part.wrong.line, customers, items, out)?;
     let blocked = &part.wrong.part;
-    print_all_stuck(blocked.calls.as_slice(), blocked.stuck.as_slice(), out)
+    print_all_stuck(blocked.calls.as_slice(), blocked.stuck.as_slice(), out)?;
+    print_states(part.wrong.states, out)
 }
 
 /// Appends the result that the question is undecided, with the largest number `most` of completed

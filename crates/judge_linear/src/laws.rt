@@ -1,13 +1,14 @@
 //! Laws on the results. Each law is the contract of a function that does nothing.
 
 ghost use Rattle.judge_linear.specs.Laws.{OrderIsAtLevel, NoOrderMeansNone, OrderIsJudgedLegal};
-ghost use Rattle.judge_linear.specs.Laws.{IllegalPartMeansNone, OutcomeDecides};
+ghost use Rattle.judge_linear.specs.Laws.{IllegalPartMeansNone, StatesShowFirstEnd, OutcomeDecides};
 ghost use Rattle.judge_linear.specs.Laws.{FoundIsReordered, CoveredMeansWhole};
 ghost use Rattle.judge_linear.specs.Wrongs.{WrongIsFirst, FirstWrongIsWritten, WrongOrInTurn};
 ghost use Rattle.judge_linear.specs.Wrongs.{OutOfTurnIsLeftOut, OutOfTurnMeansNone};
 
 use judge_calls::{a_covered_order_is_the_whole_workload, a_legal_history_has_this_summary};
-use judge_reservations::illegal_parts_show_illegal_histories;
+use judge_object::{a_cut_of_a_cut_is_a_cut, a_cut_of_a_linearizable_history_is_linearizable};
+use judge_reservations::{Reservations, illegal_parts_show_illegal_histories};
 
 /// States that, if an order is found at a level, the history is at the level: linearizable,
 /// sequentially consistent or serializable.
@@ -27,6 +28,17 @@ pub fn an_illegal_part_means_no_order()
     ensures { IllegalPartMeansNone }
 {
     illegal_parts_show_illegal_histories();
+}
+
+/// States that, if the result is that a part of the history has no order, and the number of states
+/// that were possible just before the end of the given line's call is known, the parts as they
+/// stood at each earlier moment are linearizable. So that end is the first at which the parts have
+/// no order.
+pub fn an_illegal_part_with_states_has_no_earlier_end()
+    ensures { StatesShowFirstEnd }
+{
+    a_cut_of_a_cut_is_a_cut::<Reservations>();
+    a_cut_of_a_linearizable_history_is_linearizable::<Reservations>();
 }
 
 /// States that the outcome of a search at a level says whether the history is at the level: it is

@@ -7,8 +7,10 @@ ghost use Rattle.judge_search.specs.Calls.{calls_of};
 ghost use Rattle.judge_search.specs.Walk.{IsWhole};
 ghost use Rattle.judge_linear.specs.Moments.{AreCutCalls, EndsAt, IsEndIn, HadNoOrder};
 ghost use Rattle.judge_linear.specs.Moments.{HadNoOrderAt, IsWrongPart};
+ghost use Rattle.judge_linear.specs.Possible.{HadStatesBefore};
 
 use crate::part::open;
+use crate::possible::possible_states;
 use crate::relaxed::copied_line;
 use judge_object::{Line, NEVER, Watcher, cut_lines};
 use judge_reservations::ValidTask;
@@ -231,13 +233,38 @@ pub(crate) struct WrongPart {
     /// The number of the call.
     pub line: u64,
     pub part: CutPart,
+    /// The number of states that are possible just before the end of the call, if it is known.
+    pub states: Option<u64>,
+}
+
+/// Returns the number of states that are possible after some calls as they stood just before a
+/// moment, for a system of the greatest number of blocks: the states that the linearizations of
+/// these calls leave.
+///
+/// Not said: that the number is returned. It is not returned if there are too many states, or none.
+fn states_before(
+    alloc: Global,
+    calls: &Calls<ValidTask>,
+    moment: u64,
+) -> Result<Option<u64>, AllocError>
+    requires whole { IsWhole (calls_of calls.now.lines.items) }
+    ensures { IfOk result (λ found. IfSome found
+        (HadStatesBefore (calls_of calls.now.lines.items) moment)) }
+{
+    if moment == 0 {
+        return Ok(None);
+    }
+    let before = cut_calls(alloc, moment - 1, calls.as_slice())?;
+    possible_states(alloc, &before)
 }
 
 /// Searches for the first call at whose end some calls have no order, in at most `steps` steps for
-/// each end that is tried. Returns its number, and the calls as they stood then.
+/// each end that is tried. Returns its number, the calls as they stood then, and the number of
+/// states that were possible just before. The steps do not bound the count of states, which has a
+/// bound of its own.
 ///
-/// Not said: that the calls have an order at all earlier ends; which number is returned if several
-/// calls ended at the moment.
+/// Not said: that the calls have an order at all earlier ends, unless the number of states is
+/// returned; which number is returned if several calls ended at the moment.
 pub(crate) fn first_wrong<P: Watcher>(
     alloc: Global,
     calls: &Calls<ValidTask>,
@@ -251,8 +278,10 @@ pub(crate) fn first_wrong<P: Watcher>(
         return Ok(None);
     };
     let line = line_of(calls.as_slice(), &first);
+    let states = states_before(alloc, calls, first.part.moment)?;
     Ok(Some(WrongPart {
         line,
         part: first.part,
+        states,
     }))
 }

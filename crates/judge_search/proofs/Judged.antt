@@ -41,7 +41,9 @@ module _ {S O R : Type 0} (X : Rules S O R) where
       ap (λ l. rest_of (is_made l beyond) 0 cs) e ∙ ap (λ b. rest_of (is_made 0 b) 0 cs) f ∙
       none_made (is_made 0 []) 0 cs none_low
 
-  at_start : (calls : Calls O) (point : Point S) (s : S) → point.low ≡ 0 → point.beyond.items ≡ [] → point.machine ≡ s
+  -- a point at which no call has a position is the start
+  pub at_start : (calls : Calls O) (point : Point S) (s : S) → point.low ≡ 0 → point.beyond.items ≡ [] →
+      point.machine ≡ s
       → point_at X calls point ≡ start s (calls_of calls.lines.items)
   at_start calls point s e f g =
       ap (λ x. record { rest = x; state = point.machine })

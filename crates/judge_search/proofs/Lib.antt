@@ -18,3 +18,4 @@ pub mod Judged
 pub mod Exact
 pub mod Checks
 pub mod StuckCalls
+pub mod ReachedPoints

@@ -11,3 +11,4 @@ pub mod Point
 pub mod Stuck
 pub mod Judging
 pub mod Checking
+pub mod Reaching

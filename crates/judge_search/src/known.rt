@@ -2,6 +2,7 @@
 
 ghost use Rattle.std.specs.Prelude.{◌≡◌, ◌++◌, ◌∷◌, [], ◌<◌, OnOk, map, true, Some, slice_get, vec_len};
 ghost use Rattle.std.specs.List.{Contains};
+ghost use Rattle.judge_search.specs.Reaching.{AddsNew};
 
 use crate::index::Index;
 use crate::world::World;
@@ -84,5 +85,16 @@ impl<W: World + Drop> Known<W> {
         self.index.push(world.hash(ground))?;
         self.worlds.push(world)?;
         Ok(())
+    }
+
+    /// Adds a world if no equal world is found.
+    pub(crate) fn meet(&mut self, ground: &W::Ground, world: W) -> Result<(), AllocError>
+        ensures { OnOk result (AddsNew (W.view ground.now).at (world ∷ [])
+            self.old.worlds.items self.new.worlds.items) }
+    {
+        if self.has(ground, &world) {
+            return Ok(());
+        }
+        self.add(ground, world)
     }
 }

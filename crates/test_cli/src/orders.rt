@@ -92,17 +92,17 @@ const NEVER_RIGHT: &str = "0 0 9 newcust 1 -> true\n1 0 9 newcust 2 -> true\n\
 #[test]
 fn histories_that_have_no_order(rt: HostRuntime) -> Result<(), Fail> {
     let rows: [Row; 7] = [
-        (NEVER_RIGHT, "illegal part 4 customer 1\nstuck 4 0\n"),
+        (NEVER_RIGHT, "illegal part 4 customer 1\nstuck 4 0\nstates 2\n"),
         // a lost update
         (
             "0 0 1 add car 1 1 5 -> true\n1 2 5 add car 1 1 5 -> true\n\
             2 2 5 add car 1 1 5 -> true\n0 6 7 free car 1 -> 2\n",
-            "illegal part 4 car 1\nstuck 4 3\n",
+            "illegal part 4 car 1\nstuck 4 3\nstates 1\n",
         ),
         (
             WRITE_SKEW,
             "illegal part 6 customer 1 flight 1 car 1\n\
-            stuck 6 trip cust=true car=- flight=1:true room=-\n",
+            stuck 6 trip cust=true car=- flight=1:true room=-\nstates 3\n",
         ),
         (
             HALF_AN_UPDATE,
@@ -112,18 +112,18 @@ fn histories_that_have_no_order(rt: HostRuntime) -> Result<(), Fail> {
         // a stale read after a write that had ended
         (
             "2 4 5 free car 1 -> 1\n0 0 1 add car 1 1 5 -> true\n1 2 3 add car 1 1 5 -> true\n",
-            "illegal part 1 car 1\nstuck 1 2\n",
+            "illegal part 1 car 1\nstuck 1 2\nstates 1\n",
         ),
         // a customer billed twice
         (
             "0 0 1 newcust 1 -> true\n1 2 9 leave 1 -> 0\n2 2 9 leave 1 -> 0\n",
-            "illegal part 3 customer 1\nstuck 3 -1\n",
+            "illegal part 3 customer 1\nstuck 3 -1\nstates 2\n",
         ),
         // two clients given the last unit
         (
             "0 0 1 add car 1 1 5 -> true\n0 1 2 newcust 1 -> true\n0 2 3 newcust 2 -> true\n\
             1 4 9 reserve 1 car 1 -> true\n2 4 9 reserve 2 car 1 -> true\n",
-            "illegal part 5 customer 1 customer 2 car 1\nstuck 5 false sold-out\n",
+            "illegal part 5 customer 1 customer 2 car 1\nstuck 5 false sold-out\nstates 3\n",
         ),
     ];
     for (history, wanted) in rows {

@@ -118,7 +118,7 @@ const IN_ANY_ORDER: [(&[u8], &[u8], u8, &[u8]); 7] = [
         b"1 newcust 1\n",
         b"1 0 5 bill 1 -> 7\n",
         1,
-        b"illegal part 1 customer 1\nstuck 1 -1\n",
+        b"illegal part 1 customer 1\nstuck 1 -1\nstates 1\n",
     ),
 ];
 

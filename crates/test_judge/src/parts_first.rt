@@ -14,40 +14,41 @@ const ROWS: &[Row] = &[
         "0 0 1 newcust 7 -> true\n1 0 2 newcust 8 -> true\n0 3 4 add car 3 1 50 -> true\n\
         0 5 6 reserve 7 car 3 -> true\n1 7 8 bill 7 -> 40\n",
         Outcome::Illegal,
-        "illegal part 5 customer 7 car 3\nstuck 5 50\n",
+        "illegal part 5 customer 7 car 3\nstuck 5 50\nstates 1\n",
     ),
     // customer 7 was added before; the calls on the car are legal
     (
         "0 0 1 add car 3 1 50 -> true\n0 2 3 newcust 7 -> true\n1 4 5 newcust 7 -> true\n\
         0 6 7 free car 3 -> 1\n",
         Outcome::Illegal,
-        "illegal part 3 customer 7\nstuck 3 false exists\n",
+        "illegal part 3 customer 7\nstuck 3 false exists\nstates 1\n",
     ),
     // the blocked call is named by its line, which comes first
     (
         "1 4 5 newcust 7 -> true\n0 2 3 newcust 7 -> true\n2 0 9 newcust 8 -> true\n",
         Outcome::Illegal,
-        "illegal part 1 customer 7\nstuck 1 false exists\n",
+        "illegal part 1 customer 7\nstuck 1 false exists\nstates 1\n",
     ),
     // two customers who book the last unit
     (
         "0 0 1 add car 1 1 5 -> true\n0 1 2 newcust 1 -> true\n0 2 3 newcust 2 -> true\n\
         1 4 9 reserve 1 car 1 -> true\n2 4 9 reserve 2 car 1 -> true\n",
         Outcome::Illegal,
-        "illegal part 5 customer 1 customer 2 car 1\nstuck 5 false sold-out\n",
+        "illegal part 5 customer 1 customer 2 car 1\nstuck 5 false sold-out\nstates 3\n",
     ),
     // line 3 is wrong first; line 2, which is wrong too, was running when line 3 ended
     (
         "0 0 1 newcust 7 -> true\n1 2 20 bill 7 -> 5\n0 3 4 newcust 7 -> true\n",
         Outcome::Illegal,
-        "illegal part 3 customer 7\nstuck 3 false exists\n",
+        "illegal part 3 customer 7\nstuck 3 false exists\nstates 1\n",
     ),
     // two calls are wrong at the same moment, and a call begins later that never ends
     (
         "0 0 1 newcust 7 -> true\n1 2 9 newcust 7 -> true\n2 3 9 newcust 7 -> true\n\
         3 10 - newcust 7 -> ?\n",
         Outcome::Illegal,
-        "illegal part 2 customer 7\nstuck 2 false exists\nstuck 3 false exists\n",
+        "illegal part 2 customer 7\nstuck 2 false exists\nstuck 3 false exists\n\
+        states 1\n",
     ),
     // an audit belongs to no part
     (

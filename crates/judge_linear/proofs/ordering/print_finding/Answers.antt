@@ -34,7 +34,7 @@ returns-in_ok-print_illegal_part-in-Part-clause-text c = λ want lines n given l
     c.print_illegal_part.new.out.items few before h
     (c.in_ok-print_illegal_part-in-Part.ensures within
     ∙ ap (λ t. t ++ part_text part.wrong.line part.scope.customers.items part.scope.items.items
-    (told_by (numbers_of sorted) blocked.stuck.items)) none)
+    (told_by (numbers_of sorted) blocked.stuck.items) part.wrong.states) none)
 
 pub returns-in-Whole-clause-order : goal.returns-in-Whole-clause-order
 returns-in-Whole-clause-order c = if_ok (λ outcome h f. h (subst HasFoundOrder c.in-Whole.is f)) c.print_whole.result
