@@ -27,9 +27,10 @@ given_at f calls (n ∷ ns) (p ∷ ps) h (suc place) number call e g =
     given_at f calls ns ps h.1 place number call e g
 
 pub had_illegal : (n : ℕ) (bytes : List ℕ) (line : ℕ) (customers : List ℕ) (items : List Place)
-    (stuck : List (ℕ × Reply)) → HasIllegalPart level.Linearizable n bytes line customers items stuck →
+    (stuck : List (ℕ × Reply)) (states : Option ℕ) →
+    HasIllegalPart level.Linearizable n bytes line customers items stuck states →
     HadIllegalPart customers items line bytes
-had_illegal n bytes line customers items stuck h =
+had_illegal n bytes line customers items stuck states h =
     let at = given_at _ h.calls h.part_numbers h.parts h.are_parts h.ended.place line h.ended.call h.ended.number_at
     h.ended.call_is in
     merged_had customers items line bytes h.calls _ h.are_kept.listed h.are_kept.merges h.scope h.is_scope h.parts

@@ -1,5 +1,5 @@
 -- Laws of the verdict on a history and of the part that is written for it.
-use Rattle.std.specs.Prelude.{ℕ, true, false, List}
+use Rattle.std.specs.Prelude.{ℕ, true, false, List, Option}
 use Rattle.vac_model.specs.declared.limits.TheConstants.{MOST_BLOCKS}
 use Rattle.vac_model.specs.declared.replies.Reply.{Reply}
 use Rattle.vac_model.specs.State.{Place}
@@ -32,6 +32,6 @@ pub record IsWrittenIllegal (customers : List ℕ) (items : List Place) (line : 
 -- has none
 abbrev pub PartsOfVerdictsAreIllegal : Type 0
 PartsOfVerdictsAreIllegal = (n : ℕ) (bytes : List ℕ) (line : ℕ) (customers : List ℕ)
-    (items : List Place) (stuck : List (ℕ × Reply)) →
-    HasIllegalPart level.Linearizable n bytes line customers items stuck →
+    (items : List Place) (stuck : List (ℕ × Reply)) (states : Option ℕ) →
+    HasIllegalPart level.Linearizable n bytes line customers items stuck states →
     IsWrittenIllegal customers items line bytes

@@ -91,6 +91,7 @@ fn checked_part<P: Watcher>(
 
 /// Searches for a part of a history that has no order, among the parts on a few proposed scopes.
 /// The search of a part that is checked makes at most `steps` steps, and at most [`MOST_STEPS`].
+/// With no steps no scope is proposed.
 ///
 /// Not said: that a part is found if there is one.
 pub(crate) fn find_illegal_part<P: Watcher>(
@@ -102,6 +103,9 @@ pub(crate) fn find_illegal_part<P: Watcher>(
     requires whole { IsWhole (calls_of calls.now.lines.items) }
     ensures { IfOk result (λ found. IfSome found (HasNoOrderOf calls.now.lines.items)) }
 {
+    if steps == 0 {
+        return Ok(None);
+    }
     let few = steps.min(MOST_STEPS);
     let empty = open(alloc, MOST_BLOCKS)?;
     let mut proposals = Proposals::new(alloc, calls.as_slice())?;

@@ -122,18 +122,18 @@ no_damage (b ∷ before) (c ∷ calls) fault rest e =
 
 pub no_fault : ((scope : Scope) → CallsOfCutsHaveParts scope) → PartsAreWrittenForCuts
 no_fault have customers items line bytes text had fault = elim fault [
-  | inl cut ↦ at_end cut (same_calls had.calls cut.calls (sym had.listed ∙ cut.listed)) cut.text_is
+  | inl found ↦ at_end found (same_calls had.calls found.calls (sym had.listed ∙ found.listed)) found.text_is
   | inr damage ↦
       no_damage damage.first.before had.calls damage.fault damage.first.rest (sym damage.first.listed ∙ had.listed)
 ]
   where
-    at_end : (cut : IsTextOfCut customers items line bytes false text) → had.calls ≡ cut.calls →
-        IsTextUntil customers items cut.calls line false text → ⊥
-    at_end cut same h = elim h [
+    at_end : (found : IsTextOfCut customers items line bytes false text) → had.calls ≡ found.calls →
+        IsTextUntil customers items found.calls line false text → ⊥
+    at_end found same h = elim h [
       | inl then ↦ then.text_is.1.none had.scope (record {
         customers_are = had.is_scope.customers_are;
         items_are = had.is_scope.items_are;
-        parts = have had.scope then.moment cut.calls
+        parts = have had.scope then.moment found.calls
             (subst (λ cs. list_all (has_part had.scope) cs ≡ true) same had.is_scope.parts);
       })
       | inr none ↦ some_none had.moment (sym had.ends ∙ ap (λ cs. end_at cs line) same ∙ none.none)

@@ -23,5 +23,4 @@ pub use order::{find_linearization, is_linearization};
 pub use point::Point;
 pub use reaching::states_left;
 pub use stuck::{Stuck, stuck_calls};
-pub use walk::{Finding, Found, find_order};
-pub use world::World;
+pub use walk::{Finding, Found};

@@ -197,7 +197,7 @@ fn most_of<W>(walk: &Walk<W>) -> u64
 }
 
 /// Searches for an order of the calls that are left in a world, in at most `steps` steps.
-pub fn find_order<W: World + Drop, P: Watcher>(
+pub(crate) fn find_order<W: World + Drop, P: Watcher>(
     alloc: Global,
     ground: &W::Ground,
     start: W,

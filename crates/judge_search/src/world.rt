@@ -11,7 +11,7 @@ use std::alloc::{AllocError, Global};
 
 /// A configuration as a search runs it: the calls that have no position in the order yet, and a
 /// state. All worlds of a search share their ground, which names the calls by places.
-pub trait World: Sized {
+pub(crate) trait World: Sized {
     type Ground;
 
     type Of: Object;

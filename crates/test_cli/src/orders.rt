@@ -92,7 +92,10 @@ const NEVER_RIGHT: &str = "0 0 9 newcust 1 -> true\n1 0 9 newcust 2 -> true\n\
 #[test]
 fn histories_that_have_no_order(rt: HostRuntime) -> Result<(), Fail> {
     let rows: [Row; 7] = [
-        (NEVER_RIGHT, "illegal part 4 customer 1\nstuck 4 0\nstates 2\n"),
+        (
+            NEVER_RIGHT,
+            "illegal part 4 customer 1\nstuck 4 0\nstates 2\n",
+        ),
         // a lost update
         (
             "0 0 1 add car 1 1 5 -> true\n1 2 5 add car 1 1 5 -> true\n\

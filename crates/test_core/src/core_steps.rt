@@ -8,9 +8,8 @@ use crate::events::{
 };
 use std::alloc::Global;
 use std::process::Abort;
-use stm_core::{core_theorem, core_theorem_of};
+use stm_core::{FreeLaw, VERSION_LIMIT, core_theorem, core_theorem_of};
 use stm_replay::{Core, Entry, law_theorem, running_theorem};
-use stm_core::{FreeLaw, VERSION_LIMIT};
 
 const LAST: u64 = 100;
 

@@ -6,9 +6,9 @@ use crate::regions::{write_at, writes};
 use crate::same::{close, open, same, split};
 use std::alloc::{AllocError, Global};
 use std::test::Fail;
+use stm_core::FreeLaw;
 use stm_logs::WriteLog;
 use stm_region::{Client, Region};
-use stm_core::FreeLaw;
 use tx_memory::Addr;
 
 /// Returns the two words that a read finds at its lock if another client writes the word between

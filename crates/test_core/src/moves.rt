@@ -6,8 +6,8 @@ ghost use Rattle.stm_core.specs.declared.version.TheConstants.{VERSION_LIMIT};
 use rand_core::utils::NextWord;
 use rand_pcg::Pcg32;
 use std::alloc::{AllocError, Allocator};
-use stm_replay::{Event, Writes};
 use stm_core::VERSION_LIMIT;
+use stm_replay::{Event, Writes};
 
 /// Numbers of words and stripes of a region, and its last version.
 #[derive(Clone, Copy, Debug)]

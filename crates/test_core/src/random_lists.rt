@@ -7,9 +7,8 @@ use rand_pcg::Pcg32;
 use std::alloc::{AllocError, Global};
 use std::process::Abort;
 use std::test::Fail;
-use stm_core::MOST_GRANTS;
+use stm_core::{MOST_GRANTS, VERSION_LIMIT};
 use stm_replay::{Core, NotAllowed};
-use stm_core::VERSION_LIMIT;
 
 const LISTS: u64 = 2000;
 

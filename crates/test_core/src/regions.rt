@@ -7,12 +7,12 @@ use std::alloc::{AllocError, Global};
 use std::process::Abort;
 use std::test::Fail;
 use std::thread;
+use stm_core::FreeLaw;
 use stm_logs::WriteLog;
 use stm_region::{
     Client, Region, RegionFault, gathering_keeps_all_grants, reads_are_of_one_version,
     records_are_serial, running_threads_are_a_list,
 };
-use stm_core::FreeLaw;
 use tx_memory::Addr;
 
 /// Returns the value that a read finds at an address, or `None` if a lock stops the read.

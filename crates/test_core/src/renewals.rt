@@ -8,8 +8,8 @@ use linked_list_allocator::LocalHeap;
 use std::alloc::{AllocError, Allocator, Global};
 use std::process::Abort;
 use std::test::Fail;
-use stm_region::{Client, Region, RegionFault, RenewFault};
 use stm_core::FreeLaw;
+use stm_region::{Client, Region, RegionFault, RenewFault};
 use tx_memory::Addr;
 
 /// Renews the region `times` times.

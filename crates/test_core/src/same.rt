@@ -6,8 +6,8 @@ ghost use Rattle.stm_core.specs.Core.{IsFreeHanded};
 use std::alloc::Allocator;
 use std::fmt::Debug;
 use std::process::Abort;
-use stm_region::{Client, Region, RegionFault, RenewFault};
 use stm_core::FreeLaw;
+use stm_region::{Client, Region, RegionFault, RenewFault};
 
 pub(crate) fn same<T: PartialEq + Debug>(rt: &impl Abort, got: &T, want: &T) {
     assert_eq!(rt; *got, *want);

@@ -4,8 +4,8 @@ use Rattle.cli_main.proofs.Verdicts.{had_illegal}
 use Rattle.cli_main.proofs.laws.parts_of_illegal_verdicts_are_written_illegal.Goals as goal
 
 pub returns : goal.returns
-returns c = λ n bytes line customers items stuck h.
-    let had = had_illegal n bytes line customers items stuck h in
+returns c = λ n bytes line customers items stuck states h.
+    let had = had_illegal n bytes line customers items stuck states h in
     record {
       written = λ text. c.parts_are_written_for_cuts.ensures customers items line bytes text had;
       illegal = λ text part written.
