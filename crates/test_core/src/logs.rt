@@ -36,15 +36,25 @@ fn put<A: Allocator + Copy>(
     log.put(Addr(addr), addr % stripes, value)
 }
 
-/// Returns the numbers of words and locks of a log, and its value at address 9.
-fn sizes_and_nine(log: &WriteLog) -> (usize, usize, Option<u64>) {
-    (log.len(), log.lock_count(), log.get(Addr(9)))
+/// Asserts that a log has this number of words, this value at address 9 and exactly these locks,
+/// in this order.
+fn expect_log(
+    rt: &impl Abort,
+    alloc: Global,
+    log: &WriteLog,
+    words_and_nine: (usize, Option<u64>),
+    locks: &[u32],
+) {
+    same(rt, &(log.len(), log.get(Addr(9))), &words_and_nine);
+    same(rt, &locks_of(rt, alloc, log).as_slice(), &locks);
 }
 
-/// Returns the locks of a log that has two.
-fn two_locks(rt: &impl Abort, log: &WriteLog) -> [u32; 2] {
-    assert_eq!(rt; log.lock_count(), 2);
-    [log.nth_lock(0), log.nth_lock(1)]
+/// Returns the locks of a log in their order.
+fn locks_of(rt: &impl Abort, alloc: Global, log: &WriteLog) -> Vec<u32> {
+    let Ok(locks) = log.locks().collect(alloc) else {
+        panic!(rt; "there is no memory")
+    };
+    locks
 }
 
 /// Returns the words of a lock.
@@ -66,17 +76,16 @@ fn replaced(alloc: Global) -> Result<WriteLog, AllocError> {
 
 #[test]
 fn a_value_is_replaced(rt: HostRuntime) -> Result<(), Fail> {
-    same(&rt, &sizes_and_nine(&new_log(rt.alloc())), &(0, 0, None));
+    expect_log(&rt, rt.alloc(), &new_log(rt.alloc()), (0, None), &[]);
     let mut log = replaced(rt.alloc())?;
-    same(&rt, &sizes_and_nine(&log), &(2, 2, Some(3)));
+    expect_log(&rt, rt.alloc(), &log, (2, Some(3)), &[4, 9]);
     same(&rt, &log.get(Addr(5)), &None);
     holds(&rt, log.has_lock(4) && log.has_lock(9) && !log.has_lock(5));
-    same(&rt, &two_locks(&rt, &log), &[4, 9]);
     let nine = words_of(&rt, rt.alloc(), &log, 9);
     same(&rt, &nine.as_slice(), &[(Addr(9), 3)].as_slice());
     same(&rt, &words_of(&rt, rt.alloc(), &log, 5).len(), &0);
     log.clear();
-    same(&rt, &sizes_and_nine(&log), &(0, 0, None));
+    expect_log(&rt, rt.alloc(), &log, (0, None), &[]);
     Ok(())
 }
 
@@ -102,15 +111,17 @@ fn addresses_of_one_remainder_are_marked_together(rt: HostRuntime) -> Result<(),
 fn two_words_share_a_lock(rt: HostRuntime) -> Result<(), Fail> {
     let mut log = new_log(rt.alloc());
     put_two(&mut log, 4, (9, 1), (5, 2))?;
-    same(&rt, &log.lock_count(), &1);
     let words = words_of(&rt, rt.alloc(), &log, 1);
     same(
         &rt,
         &words.as_slice(),
         &[(Addr(5), 2), (Addr(9), 1)].as_slice(),
     );
-    let locks: Vec<u32> = log.locks().collect(rt.alloc())?;
-    same(&rt, &locks.as_slice(), &[1].as_slice());
+    same(
+        &rt,
+        &locks_of(&rt, rt.alloc(), &log).as_slice(),
+        &[1].as_slice(),
+    );
     Ok(())
 }
 
@@ -246,7 +257,6 @@ fn expect_all<A: Allocator + Copy>(rt: &impl Abort, log: &WriteLog<A>, stripes: 
     requires { 0 < stripes }
 {
     same(rt, &log.len(), &(count as usize));
-    same(rt, &log.lock_count(), &(count.min(stripes) as usize));
     let mut next_lock = 0u32;
     let mut words = 0u64;
     for lock in log.locks() {
@@ -254,6 +264,7 @@ fn expect_all<A: Allocator + Copy>(rt: &impl Abort, log: &WriteLog<A>, stripes: 
         next_lock = next_lock.wrapping_add(1);
         words = words.wrapping_add(expect_words(rt, log, stripes, lock));
     }
+    same(rt, &next_lock, &count.min(stripes));
     same(rt, &words, &u64::from(count));
 }
 
