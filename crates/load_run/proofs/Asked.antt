@@ -43,7 +43,7 @@ pub record WasAsked (region : RegionShown) (t : Task) (tries : ℕ) (end : Resul
   pub alone : HasAllGrants v → (counted end nothing).busy ≡ 0
   pub clock : HasAllGrants v → Clocked region.last v v' (counted end nothing)
   pub took : AreStatistics tries (counted end nothing) (with_call e no_attempts)
-  pub kept : HasKeptAdded v v' before after
+  pub kept : HasKeptAdded region.renewal v v' before after
   pub ready : HasAllGrants v → IfOk end (λ _. IsAnswered region v')
   pub refused : HasAllGrants v → IfErr end (λ why. IsOpeningFault region.last v.floor why)
 
@@ -69,7 +69,7 @@ asked_none region t tries e v a b some none same = record {
   alone = λ h. refl;
   clock = λ h. clocked_quiet region.last v v refl;
   took = took_none tries e (one_try tries some) none;
-  kept = kept_none v v a b refl same;
+  kept = kept_none region.renewal v a b same;
   ready = λ h. tt;
   refused = λ h. tt;
 }
@@ -81,7 +81,7 @@ pub record Issued {E : Type 0} (region : RegionShown) (built : Result Task E) (t
   pub one : RanOne region.renewal built tries end v v'
   pub clock : HasAllGrants v → Clocked region.last v v' (counted end nothing)
   pub took : AreStatistics tries (counted end nothing) (with_call e no_attempts)
-  pub kept : HasKeptAdded v v' a b
+  pub kept : HasKeptAdded region.renewal v v' a b
 
 -- a task that was built, and for whose call there was room
 pub issued : {E : Type 0} (region : RegionShown) (drawn : Result Task E) (t : Task) (tries : ℕ)
@@ -108,7 +108,7 @@ issued_none region (Err f) tries e v a b some none same = record {
   one = (refl, refl);
   clock = λ alone. clocked_quiet region.last v v refl;
   took = took_none tries e (one_try tries some) none;
-  kept = kept_none v v a b refl same;
+  kept = kept_none region.renewal v a b same;
 }
 
 attempt_more : (n m tries : ℕ) → n < m → n + least_attempts_of {R = Unit {0}} tries (Ok tt) ≤ m
@@ -136,7 +136,8 @@ asked_answered region t tries end p e c c' a b k is h told same kept taken =
       clock = λ alone. clocked_answered region.last p.reply c.value c'.value (called.call.next alone);
       took = took_answered tries c.value.attempt.number c'.value.attempt.number p called.statistics.conflicts e
           called.call.attempts called.statistics.statistics called.statistics.begun;
-      kept = kept_one region t p c.value c'.value a b k called.place attempts same kept taken;
+      kept = kept_one region t p e.attempts c.value c'.value a b k called.place called.statistics.begun attempts same
+          kept taken;
       ready = λ alone. record { whole = called.call.whole alone; legal = called.call.legal };
       refused = λ alone. tt;
     }
@@ -189,7 +190,8 @@ asked_refused region t tries end f e c c' a b k range some is h told same kept =
       clock = λ alone. clocked_refused region.last f c.value c'.value (called.call.next alone);
       took = took_refused tries c.value.attempt.number c'.value.attempt.number f called.statistics.conflicts e known
           called.call.attempts called.statistics.statistics called.statistics.begun;
-      kept = kept_refused region f c.value c'.value a b k called.place attempts same kept;
+      kept = kept_refused region f e.attempts c.value c'.value a b k called.place called.statistics.begun attempts same
+          kept;
       ready = λ alone. tt;
       refused = λ alone. opening_fault region t tries f c.value c'.value known (called.call.next alone)
           called.call.fault;

@@ -12,6 +12,14 @@ sum_more : {X : Type 0} (f : X → ℕ) (xs : List X) (x : X) → sum_of f (xs +
 sum_more f [] x = omega arith
 sum_more f (y ∷ xs) x = omega (arith, sum_more f xs x)
 
+pub sum_one : {X : Type 0} (f : X → ℕ) (x : X) → f x ≡ sum_of f (x ∷ [])
+sum_one f x = omega arith
+
+-- the sum with one element more
+pub sum_on : {X : Type 0} (f : X → ℕ) (x : X) (xs : List X) (y : X) (n m : ℕ) → n ≡ sum_of f (x ∷ xs) →
+    m ≡ n + f y → m ≡ sum_of f (x ∷ (xs ++ (y ∷ [])))
+sum_on f x xs y n m e g = omega (arith, sum_more f xs y, e, g)
+
 added_more : {X : Type 0} (f : X → Outcomes) (xs : List X) (x : X) →
     added_up f (xs ++ (x ∷ [])) ≡ plus (added_up f xs) (f x)
 added_more f xs x = λ i. record {

@@ -1,17 +1,19 @@
 -- Rounds, one after the other.
-use Rattle.std.proofs.Common.{◌≡◌, ◌∙◌, ℕ, suc, ◌+◌, ◌*◌, ◌≤◌, List, [], ◌∷◌, ◌++◌, length}
+use Rattle.std.proofs.Common.{◌≡◌, ◌∙◌, ℕ, suc, ◌+◌, ◌*◌, ◌≤◌, ◌<◌, inl, List, [], ◌∷◌, ◌++◌, length}
 use Rattle.std.proofs.Common.{length-append, append_assoc, refl, sym, ap, subst, arith}
-use Rattle.std.proofs.Math.Nat.{mul-le-mul}
+use Rattle.std.proofs.Math.Nat.{add-mul, mul-le-mul}
 use Rattle.tx_memory.specs.Image.{In}
 use Rattle.stm_core.specs.Client.{Record}
 use Rattle.stm_region.specs.Shown.{RegionShown}
+use Rattle.stm_object.specs.Places.{reader_at}
 use Rattle.vac_manager.specs.Called.{ClientShown, CallerShown}
 use Rattle.vac_manager.specs.Renewed.{ClosesSomewhere}
 use Rattle.stm_core.specs.History.{Sub, done, keep, skip}
 use Rattle.load_tasks.specs.declared.settings.Settings.{Settings}
 use Rattle.load_run.specs.declared.rounds.Round.{Round}
+use Rattle.load_run.specs.Attempted.{TaskCountsShown}
 use Rattle.load_run.specs.declared.outcomes.Outcomes.{Outcomes}
-use Rattle.load_run.specs.Looping.{total, AreKnown, plus}
+use Rattle.load_run.specs.Looping.{total, least_attempts, AreKnown, plus}
 use Rattle.load_run.specs.Several.{sum_of, added_up}
 use Rattle.load_run.specs.Lists.{Paired, none, both}
 use Rattle.load_run.specs.Slots.{SlotShown}
@@ -19,7 +21,7 @@ use Rattle.load_run.specs.Load.{InterleavedAll, Share, drawn_share, HasShare, Ha
 use Rattle.load_tasks.proofs.Drawing.{drawn_both}
 use Rattle.load_run.proofs.Answering.{are_of_both}
 use Rattle.load_run.proofs.Merging.{interleaved_both}
-use Rattle.load_run.proofs.Notes.{are_kept_both}
+use Rattle.load_run.proofs.Notes.{are_kept_both, kept_from}
 use Rattle.load_run.proofs.Pairs.{paired_through, paired_length}
 
 sub_after : {A : Type 0} (us bs xs : List A) → Sub xs bs → Sub xs (us ++ bs)
@@ -33,7 +35,16 @@ sub_both ys vs (skip y p) q = skip y (sub_both ys vs p q)
 
 -- what a client did in some rounds and then in others
 abbrev joined_share : {D : Type 0} → Share D → Share D → Share D
-joined_share x y = record { records = x.records ++ y.records; outcomes = plus x.outcomes y.outcomes; left = y.left }
+joined_share x y = record {
+  records = x.records ++ y.records;
+  attempts = x.attempts + y.attempts;
+  outcomes = plus x.outcomes y.outcomes;
+  left = y.left;
+}
+
+least_both : (tries n m : ℕ) (t u : Outcomes) → least_attempts tries t ≤ n → least_attempts tries u ≤ m →
+    least_attempts tries (plus t u) ≤ n + m
+least_both tries n m t u h k = omega (arith, add-mul t.busy u.busy tries, h, k)
 
 share_both : {D : Type 0} (leads : D → ℕ → D → Type 0) (s : Settings) (n m : ℕ) (state : D) (x y : Share D) →
     HasShare leads s n state x → HasShare leads s m x.left y → HasShare leads s (n + m) state (joined_share x y)
@@ -45,37 +56,47 @@ share_both leads s n m state x y h k = record {
   number = omega (arith, length-append h.answered k.answered, h.number, k.number);
   are_of = are_of_both h.answered k.answered x.records y.records h.are_of k.are_of;
   all = omega (arith, h.all, k.all);
+  least = least_both s.tries x.attempts y.attempts x.outcomes y.outcomes h.least k.least;
 }
 
 -- the same with what was kept
-kept_share_both : {D : Type 0} (leads : D → ℕ → D → Type 0) (s : Settings) (n m : ℕ) (state : SlotShown D)
-    (x y : Share (SlotShown D)) → HasKeptShare leads s n state x → HasKeptShare leads s m x.left y →
-    HasKeptShare leads s (n + m) state (joined_share x y)
-kept_share_both leads s n m state x y h k = record {
+kept_share_both : {D : Type 0} (leads : D → ℕ → D → Type 0) (s : Settings) (n m from middle next to : ℕ) →
+    middle < next → (state : SlotShown D) (x y : Share (SlotShown D)) → HasKeptShare leads s n from middle state x →
+    HasKeptShare leads s m next to x.left y → HasKeptShare leads s (n + m) from to state (joined_share x y)
+kept_share_both leads s n m from middle next to less state x y h k = record {
   has = share_both leads s n m state.draws (drawn_share x) (drawn_share y) h.has k.has;
-  kept = are_kept_both x.records y.records state.kept x.left.kept y.left.kept h.kept k.kept;
+  low = h.low;
+  high = k.high;
+  kept = are_kept_both (reader_at from h.low) (reader_at middle h.high) (reader_at to k.high) x.attempts y.attempts
+      x.records y.records state.kept x.left.kept y.left.kept h.kept
+      (kept_from (reader_at middle h.high) (reader_at next k.low) (reader_at to k.high) y.attempts y.records x.left.kept
+      y.left.kept (inl less) k.kept);
 }
+
+all_made : (a b x y z : ℕ) → a ≡ x → b ≡ y → z ≡ x + y → a + b ≡ z
+all_made a b x y z e f g = omega (arith, e, f, g)
 
 abbrev zipped : {D : Type 0} → List (Share D) → List (Share D) → List (Share D)
 zipped [] ys = []
 zipped (x ∷ xs) [] = []
 zipped (x ∷ xs) (y ∷ ys) = joined_share x y ∷ zipped xs ys
 
-module _ {D P : Type 0} (leads : D → ℕ → D → Type 0) (s : Settings) (shown_of : P → SlotShown D) (n m : ℕ) where
+module _ {D P : Type 0} (leads : D → ℕ → D → Type 0) (s : Settings) (shown_of : P → SlotShown D) (n m : ℕ)
+    (from middle next to : ℕ) (less : middle < next) where
   zip_each : (ps : List P) (xs ys : List (Share (SlotShown D))) →
-      Paired (λ p x. HasKeptShare leads s n (shown_of p) x) ps xs →
-      Paired (λ x y. HasKeptShare leads s m x.left y) xs ys →
-      Paired (λ p x. HasKeptShare leads s (n + m) (shown_of p) x) ps (zipped xs ys)
+      Paired (λ p x. HasKeptShare leads s n from middle (shown_of p) x) ps xs →
+      Paired (λ x y. HasKeptShare leads s m next to x.left y) xs ys →
+      Paired (λ p x. HasKeptShare leads s (n + m) from to (shown_of p) x) ps (zipped xs ys)
   zip_each [] [] [] none none = none
   zip_each (p ∷ ps) (x ∷ xs) (y ∷ ys) (both h hs) (both k ks) =
-      both (kept_share_both leads s n m (shown_of p) x y h k) (zip_each ps xs ys hs ks)
+      both (kept_share_both leads s n m from middle next to less (shown_of p) x y h k) (zip_each ps xs ys hs ks)
   zip_each [] (x ∷ xs) ys hs ks = elim hs [ ]
   zip_each (p ∷ ps) [] ys hs ks = elim hs [ ]
   zip_each [] [] (y ∷ ys) hs ks = elim ks [ ]
   zip_each (p ∷ ps) (x ∷ xs) [] hs ks = elim ks [ ]
 
   zip_left : (xs ys : List (Share (SlotShown D))) (ps : List P) →
-      Paired (λ x y. HasKeptShare leads s m x.left y) xs ys → Paired (λ y p. shown_of p ≡ y.left) ys ps →
+      Paired (λ x y. HasKeptShare leads s m next to x.left y) xs ys → Paired (λ y p. shown_of p ≡ y.left) ys ps →
       Paired (λ x p. shown_of p ≡ x.left) (zipped xs ys) ps
   zip_left [] [] [] none none = none
   zip_left (x ∷ xs) (y ∷ ys) (p ∷ ps) (both h hs) (both k ks) = both k (zip_left xs ys ps hs ks)
@@ -85,7 +106,7 @@ module _ {D P : Type 0} (leads : D → ℕ → D → Type 0) (s : Settings) (sho
   zip_left (x ∷ xs) (y ∷ ys) [] hs ks = elim ks [ ]
 
   zip_once : (xs ys : List (Share (SlotShown D))) (k l : List Record) →
-      Paired (λ x y. HasKeptShare leads s m x.left y) xs ys →
+      Paired (λ x y. HasKeptShare leads s m next to x.left y) xs ys →
       InterleavedAll (λ (x : Share (SlotShown D)). x.records) xs k →
       InterleavedAll (λ (x : Share (SlotShown D)). x.records) ys l →
       InterleavedAll (λ (x : Share (SlotShown D)). x.records) (zipped xs ys) (k ++ l)
@@ -100,14 +121,14 @@ module _ {D P : Type 0} (leads : D → ℕ → D → Type 0) (s : Settings) (sho
 
   -- sums over shares of what adds up
   zip_sum : (f : Share (SlotShown D) → ℕ) → ((x y : Share (SlotShown D)) → f (joined_share x y) ≡ f x + f y) →
-      (xs ys : List (Share (SlotShown D))) → Paired (λ x y. HasKeptShare leads s m x.left y) xs ys →
+      (xs ys : List (Share (SlotShown D))) → Paired (λ x y. HasKeptShare leads s m next to x.left y) xs ys →
       sum_of f (zipped xs ys) ≡ sum_of f xs + sum_of f ys
   zip_sum f adds [] [] none = refl
   zip_sum f adds (x ∷ xs) (y ∷ ys) (both h hs) = omega (arith, adds x y, zip_sum f adds xs ys hs)
   zip_sum f adds [] (y ∷ ys) hs = elim hs [ ]
   zip_sum f adds (x ∷ xs) [] hs = elim hs [ ]
 
-  zip_tallies : (xs ys : List (Share (SlotShown D))) → Paired (λ x y. HasKeptShare leads s m x.left y) xs ys →
+  zip_tallies : (xs ys : List (Share (SlotShown D))) → Paired (λ x y. HasKeptShare leads s m next to x.left y) xs ys →
       added_up (λ (x : Share (SlotShown D)). x.outcomes) (zipped xs ys) ≡ plus
       (added_up (λ (x : Share (SlotShown D)). x.outcomes) xs) (added_up (λ (x : Share (SlotShown D)). x.outcomes) ys)
   zip_tallies xs ys h = λ i. record {
@@ -117,16 +138,17 @@ module _ {D P : Type 0} (leads : D → ℕ → D → Type 0) (s : Settings) (sho
     spent = zip_sum (λ (x : Share (SlotShown D)). x.outcomes.spent) (λ x y. refl) xs ys h i;
   }
 
-  pub ran_both : (before middle after : List Record) (pairs between left : List P) (t u : Outcomes) →
-      RanAll leads s shown_of n before pairs middle between t → RanAll leads s shown_of m middle between after left u →
-      RanAll leads s shown_of (n + m) before pairs after left (plus t u)
-  ran_both before middle after pairs between left t u h k =
-      let goes : Paired (λ x y. HasKeptShare leads s m x.left y) h.shares k.shares =
+  pub ran_both : (before between-records after : List Record) (pairs between left : List P) (t u : Outcomes)
+      (a b : ℕ) → RanAll leads s shown_of n from middle before pairs between-records between t a →
+      RanAll leads s shown_of m next to between-records between after left u b →
+      RanAll leads s shown_of (n + m) from to before pairs after left (plus t u) (a + b)
+  ran_both before between-records after pairs between left t u a b h k =
+      let goes : Paired (λ x y. HasKeptShare leads s m next to x.left y) h.shares k.shares =
       paired_through (λ (x : Share (SlotShown D)) p. shown_of p ≡ x.left)
-      (λ p (y : Share (SlotShown D)). HasKeptShare leads s m (shown_of p) y)
-      (λ (x : Share (SlotShown D)) y. HasKeptShare leads s m x.left y)
-      (λ x p y e f. subst (λ (d : SlotShown D). HasKeptShare leads s m d y) e f) h.shares between k.shares h.left_are
-      k.each in
+      (λ p (y : Share (SlotShown D)). HasKeptShare leads s m next to (shown_of p) y)
+      (λ (x : Share (SlotShown D)) y. HasKeptShare leads s m next to x.left y)
+      (λ x p y e f. subst (λ (d : SlotShown D). HasKeptShare leads s m next to d y) e f) h.shares between k.shares
+      h.left_are k.each in
       record {
         shares = zipped h.shares k.shares;
         each = zip_each pairs h.shares k.shares h.each goes;
@@ -137,6 +159,9 @@ module _ {D P : Type 0} (leads : D → ℕ → D → Type 0) (s : Settings) (sho
         tallies = ap (λ (x : Outcomes). plus x u) h.tallies ∙ (ap
             (λ (x : Outcomes). plus (added_up (λ (y : Share (SlotShown D)). y.outcomes) h.shares) x) k.tallies ∙
             sym (zip_tallies h.shares k.shares goes));
+        made = all_made a b (sum_of (λ (x : Share (SlotShown D)). x.attempts) h.shares)
+            (sum_of (λ (x : Share (SlotShown D)). x.attempts) k.shares) _ h.made k.made
+            (zip_sum (λ (x : Share (SlotShown D)). x.attempts) (λ x y. refl) h.shares k.shares goes);
         alone = λ one. (
             let same : length between ≡ length pairs = paired_length _ h.shares between h.left_are ∙
             paired_length _ pairs h.shares h.each in
@@ -153,47 +178,55 @@ module _ {D P : Type 0} (leads : D → ℕ → D → Type 0) (s : Settings) (sho
 
 -- one round more
 pub ran_more : {W D : Type 0} (leads : D → ℕ → D → Type 0) (shown_of : W → SlotShown D) (s : Settings) (rounds : ℕ)
-    (y ready : CallerShown) (slots : List W) (r more : Round W) (t : Outcomes) →
+    (y ready : CallerShown) (slots : List W) (r more : Round W) (t : TaskCountsShown) →
     RoundHasRun leads shown_of s (rounds * s.tasks) y slots r →
     ready.user.value.records ≡ r.client.value.records →
+    r.manager.renewal < ready.shared.renewal →
     RoundHasRun leads shown_of s s.tasks ready r.slots.items more →
-    t ≡ plus r.outcomes.outcomes more.outcomes.outcomes →
-    RanAll leads s shown_of ((rounds + 1) * s.tasks) y.user.value.records slots
-    more.client.value.records more.slots.items t
-ran_more leads shown_of s rounds y ready slots r more t h same k e =
+    t.outcomes ≡ plus r.outcomes.outcomes more.outcomes.outcomes →
+    t.attempts ≡ r.outcomes.attempts + more.outcomes.attempts →
+    RanAll leads s shown_of ((rounds + 1) * s.tasks) y.shared.renewal more.manager.renewal y.user.value.records slots
+    more.client.value.records more.slots.items t.outcomes t.attempts
+ran_more leads shown_of s rounds y ready slots r more t h same less k e f =
     let n : rounds * s.tasks + s.tasks ≡ (rounds + 1) * s.tasks = grind arith in
     let first = y.user.value.records in
     let middle = r.client.value.records in
     let last = more.client.value.records in
-    let next : RanAll leads s shown_of s.tasks middle r.slots.items last more.slots.items more.outcomes.outcomes =
-    subst (λ (l : List Record). RanAll leads s shown_of s.tasks l r.slots.items last more.slots.items
-    more.outcomes.outcomes) same k in
-    subst (λ (j : ℕ). RanAll leads s shown_of j first slots last more.slots.items t) n
-    (subst (λ (u : Outcomes). RanAll leads s shown_of (rounds * s.tasks + s.tasks) first slots last
-    more.slots.items u) (sym e)
-    (ran_both leads s shown_of (rounds * s.tasks) s.tasks first middle last slots r.slots.items more.slots.items
-    r.outcomes.outcomes more.outcomes.outcomes h next))
+    let from = y.shared.renewal in
+    let to = more.manager.renewal in
+    let next : RanAll leads s shown_of s.tasks ready.shared.renewal to middle r.slots.items last more.slots.items
+    more.outcomes.outcomes more.outcomes.attempts =
+    subst (λ (l : List Record). RanAll leads s shown_of s.tasks ready.shared.renewal to l r.slots.items last
+    more.slots.items more.outcomes.outcomes more.outcomes.attempts) same k in
+    subst (λ (j : ℕ). RanAll leads s shown_of j from to first slots last more.slots.items t.outcomes t.attempts) n
+    (subst (λ (u : Outcomes). RanAll leads s shown_of (rounds * s.tasks + s.tasks) from to first slots last
+    more.slots.items u t.attempts) (sym e)
+    (subst (λ (j : ℕ). RanAll leads s shown_of (rounds * s.tasks + s.tasks) from to first slots last
+    more.slots.items (plus r.outcomes.outcomes more.outcomes.outcomes) j) (sym f)
+    (ran_both leads s shown_of (rounds * s.tasks) s.tasks from r.manager.renewal ready.shared.renewal to less
+    first middle last slots r.slots.items more.slots.items
+    r.outcomes.outcomes more.outcomes.outcomes r.outcomes.attempts more.outcomes.attempts h next)))
 
 -- tallies of so many tasks each
 total_of : {D P : Type 0} (leads : D → ℕ → D → Type 0) (s : Settings) (shown_of : P →
-    SlotShown D) (n : ℕ) (pairs : List P) (shares : List (Share (SlotShown D))) →
-    Paired (λ p x. HasKeptShare leads s n (shown_of p) x) pairs shares →
+    SlotShown D) (n from to : ℕ) (pairs : List P) (shares : List (Share (SlotShown D))) →
+    Paired (λ p x. HasKeptShare leads s n from to (shown_of p) x) pairs shares →
     total (added_up (λ (x : Share (SlotShown D)). x.outcomes) shares) ≡ length pairs * n
-total_of leads s shown_of n [] [] none = omega arith
-total_of leads s shown_of n (p ∷ pairs) (x ∷ shares) (both h hs) =
-    counts (total_of leads s shown_of n pairs shares hs) h.has.all
+total_of leads s shown_of n from to [] [] none = omega arith
+total_of leads s shown_of n from to (p ∷ pairs) (x ∷ shares) (both h hs) =
+    counts (total_of leads s shown_of n from to pairs shares hs) h.has.all
   where
     counts : total (added_up (λ (y : Share _). y.outcomes) shares) ≡ length pairs * n → total x.outcomes ≡ n →
         total (added_up (λ (y : Share _). y.outcomes) (x ∷ shares)) ≡ suc (length pairs) * n
     counts e f = omega (arith, e, f)
-total_of leads s shown_of n [] (x ∷ shares) hs = elim hs [ ]
-total_of leads s shown_of n (p ∷ pairs) [] hs = elim hs [ ]
+total_of leads s shown_of n from to [] (x ∷ shares) hs = elim hs [ ]
+total_of leads s shown_of n from to (p ∷ pairs) [] hs = elim hs [ ]
 
 pub ran_total : {D P : Type 0} (leads : D → ℕ → D → Type 0) (s : Settings) (shown_of : P →
-    SlotShown D) (n : ℕ) (before after : List Record) (pairs left : List P) (t : Outcomes) →
-    RanAll leads s shown_of n before pairs after left t → total t ≡ length pairs * n
-ran_total leads s shown_of n before after pairs left t h = ap (λ (u : Outcomes). total u) h.tallies ∙
-    total_of leads s shown_of n pairs h.shares h.each
+    SlotShown D) (n from to : ℕ) (before after : List Record) (pairs left : List P) (t : Outcomes) (a : ℕ) →
+    RanAll leads s shown_of n from to before pairs after left t a → total t ≡ length pairs * n
+ran_total leads s shown_of n from to before after pairs left t a h = ap (λ (u : Outcomes). total u) h.tallies ∙
+    total_of leads s shown_of n from to pairs h.shares h.each
 
 -- the product of numbers below bounds
 below_both : (a b c d : ℕ) → a ≤ b → c ≤ d → a * c ≤ b * d

@@ -7,6 +7,7 @@ pub mod Clocking
 pub mod Answering
 pub mod Beginning
 pub mod Opened
+pub mod Making
 pub mod Notes
 mod Pairs
 mod Gatherings

@@ -28,6 +28,7 @@ use Rattle.load_run.specs.declared.load.LoadFault.TheVariants as load
 use Rattle.load_tasks.specs.Streams.{stream_of, streams_of, gives}
 use Rattle.load_run.specs.declared.load.Load.{Load}
 use Rattle.load_run.specs.Streams.{KeptBySeed, IsBySeed}
+use Rattle.stm_object.specs.Places.{reader_at}
 use Rattle.load_run.specs.Lists.{Paired, none, both}
 use Rattle.load_run.specs.Alone.{IsReadyForRound}
 use Rattle.load_run.specs.Keeping.{RecorderContents, AreKept}
@@ -79,9 +80,9 @@ module _ {D : Type 0} where
     spent = sum_drawn (λ x. x.outcomes.spent) xs i;
   }
 
-module _ {D P : Type 0} (leads : D → ℕ → D → Type 0) (s : Settings) (shown_of : P → SlotShown D) (n : ℕ) where
+module _ {D P : Type 0} (leads : D → ℕ → D → Type 0) (s : Settings) (shown_of : P → SlotShown D) (n from to : ℕ) where
   each_drawn : (ps : List P) (xs : List (Share (SlotShown D))) →
-      Paired (λ p x. HasKeptShare leads s n (shown_of p) x) ps xs →
+      Paired (λ p x. HasKeptShare leads s n from to (shown_of p) x) ps xs →
       Paired (λ p x. HasShare leads s n (shown_of p).draws x) ps (map drawn_share xs)
   each_drawn [] [] none = none
   each_drawn (p ∷ ps) (x ∷ xs) (both h hs) = both h.has (each_drawn ps xs hs)
@@ -89,12 +90,14 @@ module _ {D P : Type 0} (leads : D → ℕ → D → Type 0) (s : Settings) (sho
   each_drawn (p ∷ ps) [] hs = elim hs [ ]
 
   kept_drawn : (ps : List P) (xs : List (Share (SlotShown D))) (qs : List P) →
-      Paired (λ p x. HasKeptShare leads s n (shown_of p) x) ps xs → Paired (λ x p. shown_of p ≡ x.left) xs qs →
-      AllKept (λ (x : Share D). x.records) (map drawn_share xs) (map (λ p. (shown_of p).kept) ps)
+      Paired (λ p x. HasKeptShare leads s n from to (shown_of p) x) ps xs → Paired (λ x p. shown_of p ≡ x.left) xs qs →
+      AllKept (λ (x : Share D). x.attempts) (λ (x : Share D). x.records) (map drawn_share xs)
+      (map (λ p. (shown_of p).kept) ps)
       (map (λ p. (shown_of p).kept) qs)
   kept_drawn [] [] [] none none = none_kept
   kept_drawn (p ∷ ps) (x ∷ xs) (q ∷ qs) (both h hs) (both k ks) =
-      one_kept (subst (λ (y : SlotShown D). AreKept x.records (shown_of p).kept y.kept) (sym k) h.kept)
+      one_kept (subst (λ (y : SlotShown D). AreKept x.attempts x.records (shown_of p).kept y.kept) (sym k)
+      (record { first = reader_at from h.low; last = reader_at to h.high; between = h.kept }))
       (kept_drawn ps xs qs hs ks)
   kept_drawn [] (x ∷ xs) qs hs ks = elim hs [ ]
   kept_drawn (p ∷ ps) [] qs hs ks = elim hs [ ]
@@ -108,14 +111,15 @@ pub loaded_kept : {D G K : Type 0} (leads : D → ℕ → D → Type 0) (notes :
     (r : Report) →
     length slots ≡ s.clients →
     HasOpened leads s state last y →
-    AreKept y.user.value.records before kept →
+    AreKept y.user.value.attempt.number y.user.value.records before kept →
     RoundHasRun leads (shown notes) s (s.rounds * s.tasks) y slots end →
     AreVersioned end.client.value.records →
     end.manager.size ≡ y.shared.size →
     end.manager.first ≡ y.shared.first →
     ClosesSomewhere end.manager end.client.value words →
     ((x : State) → Shows words x → report x ≡ r) →
-    LoadedKept leads s (λ slot. slot.draws) state slots end.outcomes.outcomes r before kept (kept_at notes slots)
+    LoadedKept leads s (λ slot. slot.draws) state slots end.outcomes.outcomes r end.outcomes.attempts before kept
+    (kept_at notes slots)
     (kept_at notes end.slots.items)
 loaded_kept leads notes s state last slots y end before kept words r n opened keeps all versioned size first closed
     shows =
@@ -125,6 +129,8 @@ loaded_kept leads notes s state last slots y end before kept words r n opened ke
     let after = end.client.value in
     let left = end.slots.items in
     let n_of = s.rounds * s.tasks in
+    let from = y.shared.renewal in
+    let to = end.manager.renewal in
     let records : y.user.value.records ≡ added = ran.answered.records ∙
     ap (λ (c : ClientShown). c.value.records ++ added) opened.opens.client_is in
     let capacity : capacity_of end.manager ≡ s.blocks = ap (λ (k : ℕ). (k - 16) / 8) size ∙
@@ -149,17 +155,19 @@ loaded_kept leads notes s state last slots y end before kept words r n opened ke
         opening_is = ran.drawn;
         opened_are = ran.answered.are_of;
         shares = map drawn_share all.shares;
-        each = each_drawn leads s (shown notes) n_of slots all.shares all.each;
+        each = each_drawn leads s (shown notes) n_of from to slots all.shares all.each;
         each_once = once_drawn all.shares all.rest all.each_once;
         tallies = all.tallies ∙ sym (tallies_drawn all.shares);
-        all = ran_total leads s (shown notes) n_of y.user.value.records after.records slots left end.outcomes.outcomes
-            all ∙
+        all = ran_total leads s (shown notes) n_of from to y.user.value.records after.records slots left
+            end.outcomes.outcomes end.outcomes.attempts all ∙
             (ap (λ (k : ℕ). k * (s.rounds * s.tasks)) n ∙ count);
         alone = λ one. all.alone (n ∙ one);
         in_time = λ one time. all.in_time (n ∙ one) time;
       };
-      opening_kept = subst (λ (l : List Record). AreKept l before kept) records keeps;
-      clients_kept = kept_drawn leads s (shown notes) n_of slots all.shares left all.each all.left_are;
+      made = all.made ∙ sym (sum_drawn (λ x. x.attempts) all.shares);
+      setup_attempts = y.user.value.attempt.number;
+      opening_kept = subst (λ (l : List Record). AreKept y.user.value.attempt.number l before kept) records keeps;
+      clients_kept = kept_drawn leads s (shown notes) n_of from to slots all.shares left all.each all.left_are;
     }
 
 -- what holds between images and elements holds between the list of images and the elements
@@ -179,11 +187,11 @@ paired_unmap f related (a ∷ ks) [] hs = elim hs [ ]
 
 -- a load is one of whatever its clients' draws begin with
 kept_on : {D P Q : Type 0} (leads : D → ℕ → D → Type 0) (s : Settings) (draws_of : P → D) (drawing : Q →
-    D) (state : D) (ps : List P) (qs : List Q) (t : Outcomes) (r : Report) (before after : RecorderContents)
-    (befores afters : List RecorderContents) →
-    map draws_of ps ≡ map drawing qs → LoadedKept leads s draws_of state ps t r before after befores afters →
-    LoadedKept leads s drawing state qs t r before after befores afters
-kept_on leads s draws_of drawing state ps qs t r before after befores afters e h = record {
+    D) (state : D) (ps : List P) (qs : List Q) (t : Outcomes) (r : Report) (n : ℕ)
+    (before after : RecorderContents) (befores afters : List RecorderContents) →
+    map draws_of ps ≡ map drawing qs → LoadedKept leads s draws_of state ps t r n before after befores afters →
+    LoadedKept leads s drawing state qs t r n before after befores afters
+kept_on leads s draws_of drawing state ps qs t r n before after befores afters e h = record {
   loaded = record {
     history = h.loaded.history;
     last = h.loaded.last;
@@ -212,6 +220,8 @@ kept_on leads s draws_of drawing state ps qs t r before after befores afters e h
     in_time = h.loaded.in_time;
   };
   opening_kept = h.opening_kept;
+  made = h.made;
+  setup_attempts = h.setup_attempts;
   clients_kept = h.clients_kept;
 }
 
@@ -241,26 +251,26 @@ kept_returned keep_of notes left keeps are says h =
 
 -- a load by a seed, with its keepers
 pub kept_by_seed : {G K : Type 0} (notes : K → RecorderContents) (s : Settings) (before after : Recorders K)
-    (l : Load Lcg G K) (t : Outcomes) (r : Report) → IsBySeed s before l →
-    LoadedKept gives l.plan.settings (λ slot. slot.draws) l.draws l.slots.items t r (notes l.keep)
+    (l : Load Lcg G K) (t : Outcomes) (r : Report) (n : ℕ) → IsBySeed s before l →
+    LoadedKept gives l.plan.settings (λ slot. slot.draws) l.draws l.slots.items t r n (notes l.keep)
     (notes after.opening) (kept_at notes l.slots.items) (map notes after.clients.items) →
-    KeptBySeed notes s t r before after
-kept_by_seed notes s before after l t r is h =
+    KeptBySeed notes s t r n before after
+kept_by_seed notes s before after l t r n is h =
     let streams = streams_of s.seed s.clients in
     let opened = notes after.opening in
     let all = map notes after.clients.items in
     let first : kept_at notes l.slots.items ≡ map notes before.clients.items =
     map_both (λ slot. slot.keep) notes l.slots.items ∙ ap (λ (l : List _). map notes l) is.keeps_are in
-    kept_on gives s (λ slot. slot.draws) (λ d. d) (stream_of s.seed 0) l.slots.items streams t r _ _ _ _
+    kept_on gives s (λ slot. slot.draws) (λ d. d) (stream_of s.seed 0) l.slots.items streams t r n _ _ _ _
     (is.streams_are ∙ sym (map_same streams))
     (subst (λ (ks : List RecorderContents). LoadedKept gives s (λ slot. slot.draws)
-    (stream_of s.seed 0) l.slots.items t r
+    (stream_of s.seed 0) l.slots.items t r n
     (notes before.opening) opened ks all) first
-    (subst (λ (k : _). LoadedKept gives s (λ slot. slot.draws) (stream_of s.seed 0) l.slots.items t r
+    (subst (λ (k : _). LoadedKept gives s (λ slot. slot.draws) (stream_of s.seed 0) l.slots.items t r n
     (notes k) opened (kept_at notes l.slots.items) all) is.keep_is
-    (subst (λ (d : Lcg). LoadedKept gives s (λ slot. slot.draws) d l.slots.items t r
+    (subst (λ (d : Lcg). LoadedKept gives s (λ slot. slot.draws) d l.slots.items t r n
     (notes l.keep) opened (kept_at notes l.slots.items) all) is.draws_are
-    (subst (λ (x : Settings). LoadedKept gives x (λ slot. slot.draws) l.draws l.slots.items t r
+    (subst (λ (x : Settings). LoadedKept gives x (λ slot. slot.draws) l.draws l.slots.items t r n
     (notes l.keep) opened (kept_at notes l.slots.items) all) is.settings_are h))))
 
 too_short : {D : Type 0} (leads : D → ℕ → D → Type 0) (s : Settings) (renewal : ℕ) (e : Fault) (v v' : Client)

@@ -41,7 +41,7 @@ ran_joined leads first second y z w a b c e p k =
 -- a call that was answered was kept
 pub kept_if_ok : {E : Type 0} (command : Command) (y y' : CallerShown) (before after : RecorderContents)
     (result : Result (Unit {0}) E) → IfOk result (λ _. WasAnswered command y y' before after) →
-    IfOk result (λ _. HasKeptAdded y.user.value y'.user.value before after)
+    IfOk result (λ _. HasKeptAdded y.shared.renewal y.user.value y'.user.value before after)
 kept_if_ok command y y' before after (Ok x) q = q.kept
 kept_if_ok command y y' before after (Err e) q = tt
 

@@ -9,12 +9,14 @@ use Rattle.stm_core.proofs.Whole.{merged_sorted}
 use Rattle.stm_region.specs.Shown.{RegionShown}
 use Rattle.vac_manager.specs.Called.{ClientShown, Splits, CallerShown}
 use Rattle.load_tasks.specs.declared.settings.Settings.{Settings}
+use Rattle.load_run.specs.Attempted.{TaskCountsShown}
 use Rattle.load_run.specs.declared.outcomes.Outcomes.{Outcomes}
 use Rattle.load_run.specs.declared.workers.Worker.{Worker}
 use Rattle.load_run.specs.declared.workers.Crew.{Crew}
 use Rattle.load_tasks.specs.Draws.{Drawn, times_over}
 use Rattle.load_tasks.specs.Tasks.{task_of}
-use Rattle.load_run.specs.Keeping.{AreKept}
+use Rattle.stm_object.specs.Places.{reader_at}
+use Rattle.load_run.specs.Keeping.{AreKeptBetween}
 use Rattle.load_run.specs.Slots.{SlotShown}
 use Rattle.load_run.specs.Looping.{AreKnown, plus}
 use Rattle.load_run.specs.Several.{sum_of, added_up, Interleaved}
@@ -75,19 +77,26 @@ paired_both related P Q f (x ∷ xs) [] h p = elim p [ ]
 
 -- the records that a client added, and that they stand behind those that it had
 pub record Did {D : Type 0} (leads : D → ℕ → D → Type 0) (s : Settings) (renewal floor : ℕ) (before : List Record)
-    (state left : SlotShown D) (after : ClientShown) (t : Outcomes) : Type 0 where
+    (state left : SlotShown D) (after : ClientShown) (t : TaskCountsShown) : Type 0 where
   pub added : List Record
   pub records_are : after.value.records ≡ before ++ added
   pub sorted : Sorted added
   pub later : (r : Record) → In r added → IsLater renewal floor r
-  pub has : HasKeptShare leads s s.tasks state (record { records = added; outcomes = t; left = left })
+  pub has : HasKeptShare leads s s.tasks renewal renewal state (record {
+    records = added;
+    attempts = t.attempts;
+    outcomes = t.outcomes;
+    left = left;
+  })
+
+at_least : (a n k l : ℕ) → a + n ≡ k → a + l ≤ k → l ≤ n
+at_least a n k l e less = omega (arith, e, less)
 
 pub did : {W D : Type 0} (leads : D → ℕ → D → Type 0) (shown_of : W →
     SlotShown D) (s : Settings) (manager : RegionShown)
     (floor : ℕ) (before : List Record) (slot : W) (w : Worker W) (r : Worker W) →
     IsWorker manager before floor slot w → DidWork leads shown_of s w r →
-    Did leads s manager.renewal floor before (shown_of slot) (shown_of r.slot) r.caller.user
-    r.outcomes.outcomes
+    Did leads s manager.renewal floor before (shown_of slot) (shown_of r.slot) r.caller.user r.outcomes
 did leads shown_of s manager floor before slot w r h k =
     let y = w.caller in
     let y' = r.caller in
@@ -112,9 +121,18 @@ did leads shown_of s manager floor before slot w r h k =
           number = l.number;
           are_of = a.are_of;
           all = l.all;
+          least = at_least y.user.value.attempt.number r.outcomes.attempts y'.user.value.attempt.number _ k.attempts
+              l.attempts;
         };
-        kept = subst (λ (x : SlotShown _). AreKept a.added x.kept left.kept) same
-            (kept_added y.user.value y'.user.value a.added (shown_of w.slot).kept left.kept a.records k.kept);
+        low = y.user.value.floor;
+        high = y'.user.value.floor;
+        kept = subst (λ (x : SlotShown _). AreKeptBetween (reader_at manager.renewal y.user.value.floor)
+            (reader_at manager.renewal y'.user.value.floor) r.outcomes.attempts a.added x.kept left.kept) same
+            (subst (λ (m : RegionShown). AreKeptBetween (reader_at m.renewal y.user.value.floor)
+            (reader_at m.renewal y'.user.value.floor) r.outcomes.attempts a.added (shown_of w.slot).kept left.kept)
+            h.manager_is
+            (kept_added y.shared.renewal y.user.value y'.user.value r.outcomes.attempts a.added (shown_of w.slot).kept
+            left.kept a.records k.attempts k.kept));
       };
     }
 
@@ -167,6 +185,10 @@ module _ {W D : Type 0} (leads : D → ℕ → D → Type 0) (shown_of : W → S
   abbrev tally_of : Worker W → Outcomes
   tally_of r = r.outcomes.outcomes
 
+  -- the number of attempts
+  abbrev attempts_of : Worker W → ℕ
+  attempts_of r = r.outcomes.attempts
+
   -- the records of the client
   abbrev records_of : Worker W → List Record
   records_of r = r.caller.user.value.records
@@ -174,12 +196,14 @@ module _ {W D : Type 0} (leads : D → ℕ → D → Type 0) (shown_of : W → S
   -- the shares of the clients that began without records
   record Shared (floor : ℕ) (ps : List W) (rs : List (Worker W)) : Type 0 where
     shares : List (Share (SlotShown D))
-    each : Paired (λ p x. HasKeptShare leads s s.tasks (shown_of p) x) ps shares
+    each : Paired (λ p x. HasKeptShare leads s s.tasks opener.shared.renewal opener.shared.renewal (shown_of p) x) ps
+        shares
     left_are : Paired (λ x r. shown_of r.slot ≡ x.left) shares rs
     later : AreLater opener.shared.renewal floor shares
     merges : (l : List Record) → all_merged records_of l rs ≡ all_merged
         (λ (x : Share (SlotShown D)). x.records) l shares
     tallies : added_up tally_of rs ≡ added_up (λ (x : Share (SlotShown D)). x.outcomes) shares
+    made : sum_of attempts_of rs ≡ sum_of (λ (x : Share (SlotShown D)). x.attempts) shares
 
   shared : (floor : ℕ) (ps : List W) (ws : List (Worker W)) (rs : List (Worker W)) →
       Paired (IsWorker opener.shared [] floor) ps ws → Paired (DidWork leads shown_of s) ws rs → Shared floor ps rs
@@ -190,18 +214,25 @@ module _ {W D : Type 0} (leads : D → ℕ → D → Type 0) (shown_of : W → S
     later = tt;
     merges = λ l. refl;
     tallies = refl;
+    made = refl;
   }
   shared floor (p ∷ ps) (w ∷ ws) (r ∷ rs) (both h hs) (both k ks) =
       let d = did leads shown_of s opener.shared floor [] p w r h k in
       let more = shared floor ps ws rs hs ks in
       record {
-        shares = record { records = d.added; outcomes = tally_of r; left = shown_of r.slot } ∷ more.shares;
+        shares = record {
+          records = d.added;
+          attempts = attempts_of r;
+          outcomes = tally_of r;
+          left = shown_of r.slot;
+        } ∷ more.shares;
         each = both d.has more.each;
         left_are = both refl more.left_are;
         later = ((d.sorted, d.later), more.later);
         merges = λ l. ap (λ (m : List Record). all_merged records_of (merged l m) rs) d.records_are
             ∙ more.merges (merged l d.added);
         tallies = ap (λ (t : Outcomes). plus (tally_of r) t) more.tallies;
+        made = ap (λ (n : ℕ). attempts_of r + n) more.made;
       }
   shared floor [] [] (r ∷ rs) hs ks = elim ks [ ]
   shared floor [] (w ∷ ws) rs hs ks = elim hs [ ]
@@ -217,8 +248,7 @@ module _ {W D : Type 0} (leads : D → ℕ → D → Type 0) (shown_of : W → S
   record Round (slots : List W) (crew : Crew W) (done : Crew W) (all : List Record)
       (h : IsCrew opener s.tries slots crew) : Type 0 where
     mine : Did leads s opener.shared.renewal opener.user.value.floor opener.user.value.records
-        (shown_of h.slot) (shown_of done.first.slot) done.first.caller.user
-        done.first.outcomes.outcomes
+        (shown_of h.slot) (shown_of done.first.slot) done.first.caller.user done.first.outcomes
     more : Shared opener.user.value.floor h.rest done.others.items
     behind : all ≡ opener.user.value.records
         ++ all_merged (λ (x : Share (SlotShown D)). x.records) mine.added more.shares
@@ -241,17 +271,20 @@ module _ {W D : Type 0} (leads : D → ℕ → D → Type 0) (shown_of : W → S
       }
 
   pub ran_all : (slots left : List W) (crew : Crew W) (done : Crew W)
-      (after : Client) (t : Outcomes) → IsReadyForRound s opener → IsCrew opener s.tries slots crew →
+      (after : Client) (t : Outcomes) (n : ℕ) → IsReadyForRound s opener → IsCrew opener s.tries slots crew →
       DidAllWork leads shown_of s crew done →
       Gathered records_of tally_of done.first done.others.items after.records t →
       Paired (λ r p. p ≡ r.slot) (done.first ∷ done.others.items) left →
-      RanAll leads s shown_of s.tasks opener.user.value.records slots after.records left t
-  ran_all slots left crew done after t ready h k g lefts =
+      n ≡ sum_of attempts_of (done.first ∷ done.others.items) →
+      RanAll leads s shown_of s.tasks opener.shared.renewal opener.shared.renewal opener.user.value.records slots
+      after.records left t n
+  ran_all slots left crew done after t n ready h k g lefts counted =
       let r = round slots crew done after.records t ready h k g in
       let d = r.mine in
       let more = r.more in
       let mine : Share (SlotShown D) = record {
         records = d.added;
+        attempts = attempts_of done.first;
         outcomes = tally_of done.first;
         left = shown_of done.first.slot;
       } in
@@ -268,7 +301,8 @@ module _ {W D : Type 0} (leads : D → ℕ → D → Type 0) (shown_of : W → S
       omega (arith, none one, held, crew.others.ok.0)) in
       record {
         shares = mine ∷ more.shares;
-        each = subst (λ (l : List W). Paired (λ p x. HasKeptShare leads s s.tasks (shown_of p) x) l
+        each = subst (λ (l : List W). Paired (λ p x. HasKeptShare leads s s.tasks opener.shared.renewal
+            opener.shared.renewal (shown_of p) x) l
             (mine ∷ more.shares)) (sym h.seats_are) (both d.has more.each);
         left_are = paired_through (λ x r. shown_of r.slot ≡ x.left) (λ r p. p ≡ r.slot)
             (λ x p. shown_of p ≡ x.left) handed (mine ∷ more.shares) (done.first ∷ done.others.items) left
@@ -277,6 +311,7 @@ module _ {W D : Type 0} (leads : D → ℕ → D → Type 0) (shown_of : W → S
         behind = r.behind;
         each_once = within opener.shared.renewal opener.user.value.floor d.added more.shares d.sorted more.later;
         tallies = g.tallies ∙ ap (λ (u : Outcomes). plus (tally_of done.first) u) more.tallies;
+        made = counted ∙ ap (λ (m : ℕ). attempts_of done.first + m) more.made;
         alone = λ one. (
             let first = k.first.looped.alone (grants one) in
             let busy : t.busy ≡ (tally_of done.first).busy + sum_of (λ r. (tally_of r).busy) done.others.items =

@@ -61,14 +61,16 @@ both_statistics d e = record {
   stocks = d.stocks + e.stocks;
 }
 
--- the counts of tasks by their result, and the limit on the attempts of each task
+-- the counts of tasks by their result, the limit on the attempts of each task, and the number of
+-- attempts of all tasks
 pub record TaskCountsShown : Type 0 where
   pub outcomes : Outcomes
   pub tries : ℕ
+  pub attempts : ℕ
 
 -- the counts of no task, with this limit on the attempts of each task
 abbrev pub uncounted : ℕ → TaskCountsShown
-uncounted tries = record { outcomes = nothing; tries = tries }
+uncounted tries = record { outcomes = nothing; tries = tries; attempts = 0 }
 
 -- the attempt statistics fit the counts of the tasks, each of which has at most `tries` attempts:
 -- one attempt for each completed call and each spent clock, at most one for each refusal of
@@ -78,8 +80,9 @@ uncounted tries = record { outcomes = nothing; tries = tries }
 -- conflict except a lost tick is also counted by the word that its lock guards
 -- Not said: of a single task, that a busy task met exactly `tries` conflicts and that no task took
 -- more attempts. Only the sums are compared.
--- Not said: the kind of a conflict, or the word that its lock guards; that no attempt is left out
--- together with its conflict or its completed call.
+-- Not said: the kind of a conflict, or the word that its lock guards. That no attempt is left out
+-- together with its conflict is a clause of the load: the attempts of the shares of its clients add
+-- up to those of the statistics (`made` of `LoadedKept`).
 pub record AreStatistics (tries : ℕ) (t : Outcomes) (e : AttemptStatistics) : Type 0 where
   pub least : conflicts_in e + t.answered + t.spent ≤ e.attempts
   pub most : e.attempts ≤ conflicts_in e + t.answered + t.memory + t.spent

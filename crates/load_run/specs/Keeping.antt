@@ -1,16 +1,13 @@
 -- The contents of the recorder of a client: calls and traces of attempts.
-use Rattle.std.specs.Prelude.{◌≡◌, ℕ, true, false, List, ◌++◌, Option, Some}
-use Rattle.std.specs.List.{All}
-use Rattle.std.specs.FinMap.{empty}
-use Rattle.tx_memory.specs.Pairs.{map_of}
-use Rattle.tx_memory.specs.Accesses.{reads_behind, are_right}
+use Rattle.std.specs.Prelude.{◌≡◌, ◌+◌, ℕ, List, ◌++◌, length, Option, Some}
 use Rattle.stm_core.specs.Client.{Client, Record}
-use Rattle.stm_region.specs.Findings.{StandsOn}
+use Rattle.stm_object.specs.Places.{reader_at}
 use Rattle.vac_manager.specs.declared.note.CompletedCall.{CompletedCall}
 use Rattle.vac_manager.specs.Keeping.{notes_behind, IsNoted}
-use Rattle.vac_manager.specs.Law.{IsFitting}
+use Rattle.vac_manager.specs.Placed.{CommitPosition}
 use Rattle.vac_manager.specs.Tracing.{Trace}
 use Rattle.load_run.specs.Lists.{Paired}
+use Rattle.load_run.specs.Made.{AreMade, AreLeft}
 
 -- the contents of a recorder: the recorded calls in their order, or None if nothing is recorded;
 -- and the traced attempts, or None if no attempts are traced or if there was no room for all of
@@ -24,40 +21,53 @@ abbrev pub contents : {K : Type 0} → (K → Option (List CompletedCall)) → (
     → K → RecorderContents
 contents calls traces keep = record { calls = calls keep; traces = traces keep }
 
--- each read of the traced attempt gives what the attempt wrote or read at the address before, and
--- some image that a memory of the system may hold agrees with all reads of words that the attempt
--- had not written before
-pub record ReadsOneImage (t : Trace) : Type 0 where
-  pub right : are_right empty empty t.accesses ≡ true
-  pub reads : List (ℕ × ℕ)
-  pub are : map_of reads ≡ reads_behind empty empty t.accesses
-  pub size : ℕ
-  pub stands : ∥ StandsOn IsFitting size reads ∥₁
+-- all attempts of a client are in a recorder that had traced the attempts `before`: the client made
+-- this number of attempts, in turn, and they were added after the others, except committed ones
+-- that were taken out
+pub record HasTracedAll (first last : CommitPosition) (attempts : ℕ) (calls : List CompletedCall)
+    (records : List Record) (before : Option (List Trace)) (all : List Trace) : Type 0 where
+  pub earlier : List Trace
+  pub before_is : before ≡ Some earlier
+  pub left : List Trace
+  pub all_are : all ≡ earlier ++ left
+  pub made : List Trace
+  pub number : length made ≡ attempts
+  pub are_made : AreMade first last calls records made
+  pub are_left : AreLeft made left
 
--- if the traced attempt aborted, it is traced as a reader, and read one image
--- Not said: which attempt and which client it is, its renewal and its version, and anything of its
--- writes; the size of the image, and its place in the history. That an attempt is traced at its own
--- renewal and version is a clause of its call (`IsTraceOfAborted` of stm_object).
-abbrev pub ReadsOneImageIfAborted : Trace → Type 0
-ReadsOneImageIfAborted t = t.commits ≡ false → (t.place.wrote ≡ false) × ReadsOneImage t
-
--- traces were added after the others, and those of aborted attempts read one image each; nothing is
--- said if the traces are not known afterwards
-abbrev pub AddsTraces : Option (List Trace) → Option (List Trace) → Type 0
-AddsTraces before after = (all : List Trace) → after ≡ Some all →
-    (earlier : List Trace) × (more : List Trace) × (before ≡ Some earlier)
-    × (all ≡ earlier ++ more) × All ReadsOneImageIfAborted more
+-- each attempt of a client was traced, once and in turn; nothing is said if the traces are not
+-- known afterwards
+abbrev pub AddsTraces : CommitPosition → CommitPosition → ℕ → List CompletedCall → List Record
+    → Option (List Trace) → Option (List Trace) → Type 0
+AddsTraces first last attempts calls records before after = (all : List Trace) →
+    after ≡ Some all → HasTracedAll first last attempts calls records before all
 
 -- the recorded calls after are those before, followed by the calls of exactly these records, one
--- call for each record, in their order; and traces were added
-pub record AreKept (records : List Record) (before after : RecorderContents) : Type 0 where
+-- call for each record, in their order; and this number of attempts, from the first position to
+-- the last one, was traced, each attempt once
+pub record AreKeptBetween (first last : CommitPosition) (attempts : ℕ) (records : List Record)
+    (before after : RecorderContents) : Type 0 where
   pub notes : List CompletedCall
   pub are_of : Paired IsNoted notes records
   pub kept : after.calls ≡ notes_behind before.calls notes
-  pub traced : AddsTraces before.traces after.traces
+  pub traced : AddsTraces first last attempts notes records before.traces after.traces
 
--- the recorder appended the calls of exactly the records that its client added in the meantime
-pub record HasKeptAdded (v v' : Client) (before after : RecorderContents) : Type 0 where
+-- a recorder kept the calls of exactly these records and this number of attempts, in turn, from
+-- some position to another one
+pub record AreKept (attempts : ℕ) (records : List Record) (before after : RecorderContents)
+    : Type 0 where
+  pub first : CommitPosition
+  pub last : CommitPosition
+  pub between : AreKeptBetween first last attempts records before after
+
+-- the recorder appended the calls of exactly the records that its client added in the meantime, and
+-- the traces of exactly the attempts that the client made in the meantime: each attempt once, in
+-- this renewal, and none before the version that the client knew
+pub record HasKeptAdded (renewal : ℕ) (v v' : Client) (before after : RecorderContents)
+    : Type 0 where
   pub added : List Record
   pub records : v'.records ≡ v.records ++ added
-  pub kept : AreKept added before after
+  pub attempts : ℕ
+  pub number : v.attempt.number + attempts ≡ v'.attempt.number
+  pub kept : AreKeptBetween (reader_at renewal v.floor) (reader_at renewal v'.floor) attempts added
+      before after

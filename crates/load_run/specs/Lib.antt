@@ -3,6 +3,7 @@ pub mod Attempted
 pub mod Lists
 pub mod Looping
 pub mod Opening
+pub mod Made
 pub mod Keeping
 pub mod Alone
 pub mod Slots

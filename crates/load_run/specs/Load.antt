@@ -11,6 +11,7 @@ use Rattle.tx_alloc.specs.Spread.{IsSpreadHeap}
 use Rattle.vac_manager.specs.Called.{ClientShown, HasAllGrants, CallerShown}
 use Rattle.vac_manager.specs.Opening.{Opens}
 use Rattle.stm_object.specs.Callers.{GoesOn}
+use Rattle.stm_object.specs.Places.{reader_at}
 use Rattle.vac_manager.specs.declared.fault.Fault.{Fault}
 use Rattle.vac_manager.specs.declared.fault.Fault.TheVariants as fault
 use Rattle.load_tasks.specs.declared.settings.Settings.{Settings}
@@ -22,10 +23,10 @@ use Rattle.load_run.specs.declared.workers.Crew.{Crew}
 use Rattle.load_run.specs.declared.rounds.Round.{Round}
 use Rattle.load_run.specs.Alone.{IsAloneInRenewal, caller_of}
 use Rattle.load_run.specs.Attempted.{TaskCountsShown, uncounted}
-use Rattle.load_run.specs.Looping.{Looped, Clocked, AreOfTasks, total}
+use Rattle.load_run.specs.Looping.{Looped, Clocked, AreOfTasks, total, least_attempts}
 use Rattle.load_run.specs.Lists.{Paired}
-use Rattle.load_run.specs.Several.{Interleaved, AllKept, added_up}
-use Rattle.load_run.specs.Keeping.{RecorderContents, AreKept, HasKeptAdded}
+use Rattle.load_run.specs.Several.{Interleaved, AllKept, sum_of, added_up}
+use Rattle.load_run.specs.Keeping.{RecorderContents, AreKept, AreKeptBetween, HasKeptAdded}
 use Rattle.load_run.specs.Slots.{SlotShown}
 use Rattle.load_run.specs.Opening.{as_tasks, RanDrawn, Stopped, IsAnswered}
 use Rattle.load_tasks.specs.Setting.{is_settings}
@@ -57,7 +58,9 @@ pub record RanTasks {W D : Type 0} (leads : D → ℕ → D → Type 0) (shown_o
   pub clock : HasAllGrants y.user.value → Clocked y.shared.last y.user.value z.user.value
       c.outcomes
   pub tries : c.tries ≡ s.tries
-  pub kept : HasKeptAdded y.user.value z.user.value (shown_of slot).kept (shown_of left).kept
+  pub attempts : y.user.value.attempt.number + c.attempts ≡ z.user.value.attempt.number
+  pub kept : HasKeptAdded y.shared.renewal y.user.value z.user.value (shown_of slot).kept
+      (shown_of left).kept
 
 -- a worker ran its tasks of a round, and this is the worker afterwards
 abbrev pub DidWork : {W D : Type 0} → (D → ℕ → D → Type 0) → (W → SlotShown D) → Settings
@@ -138,14 +141,16 @@ pub record CanGather {W : Type 0} (crew : Crew W) : Type 0 where
   pub others : All (IsMember crew.first) crew.others.items
 
 -- the results of one client in one round or several: the records of its completed tasks, the
--- counts of its tasks, and the state after its draws
+-- number of its attempts, the counts of its tasks, and the state after its draws
 pub record Share (D : Type 0) : Type 0 where
   pub records : List Record
+  pub attempts : ℕ
   pub outcomes : Outcomes
   pub left : D
 
 -- a client drew n tasks, one after the other, from this state on; the completed tasks are a
--- sublist of the drawn ones, in their order, and each has its record
+-- sublist of the drawn ones, in their order, and each has its record. The client made at least as
+-- many attempts as the counted tasks need
 pub record HasShare {D : Type 0} (leads : D → ℕ → D → Type 0) (s : Settings) (n : ℕ)
     (state : D) (x : Share D) : Type 0 where
   pub tasks : List Task
@@ -155,32 +160,45 @@ pub record HasShare {D : Type 0} (leads : D → ℕ → D → Type 0) (s : Setti
   pub number : length answered ≡ x.outcomes.answered
   pub are_of : AreOfTasks answered x.records
   pub all : total x.outcomes ≡ n
+  pub least : least_attempts s.tries x.outcomes ≤ x.attempts
 
 -- the share without the recorded calls
 abbrev pub drawn_share : {D : Type 0} → Share (SlotShown D) → Share D
-drawn_share x = record { records = x.records; outcomes = x.outcomes; left = x.left.draws }
+drawn_share x = record {
+  records = x.records;
+  attempts = x.attempts;
+  outcomes = x.outcomes;
+  left = x.left.draws;
+}
 
 -- a client drew n tasks, one after the other, starting from this slot, and its recorder kept the
--- calls of the completed ones
-pub record HasKeptShare {D : Type 0} (leads : D → ℕ → D → Type 0) (s : Settings) (n : ℕ)
+-- calls of the completed ones and all attempts of the client, in turn: those of renewals `from` to
+-- `to`
+pub record HasKeptShare {D : Type 0} (leads : D → ℕ → D → Type 0) (s : Settings) (n from to : ℕ)
     (state : SlotShown D) (x : Share (SlotShown D)) : Type 0 where
   pub has : HasShare leads s n state.draws (drawn_share x)
-  pub kept : AreKept x.records state.kept x.left.kept
+  pub low : ℕ
+  pub high : ℕ
+  pub kept : AreKeptBetween (reader_at from low) (reader_at to high) x.attempts x.records
+      state.kept x.left.kept
 
--- all clients ran n tasks each, in one round or several, and were gathered: exactly the records of
+-- all clients ran n tasks each, in one round or several, in renewals `from` to `to`, and were
+-- gathered: exactly the records of
 -- the completed tasks come after the earlier records, those of each client in their order, and the
--- slot of each client is as its tasks left it. A single client meets no conflict, and if the clock
+-- slot of each client is as its tasks left it. The number of attempts is the sum of those of the
+-- clients. A single client meets no conflict, and if the clock
 -- has time, none of its tasks finds the clock spent
 pub record RanAll {D P : Type 0} (leads : D → ℕ → D → Type 0) (s : Settings)
-    (shown_of : P → SlotShown D) (n : ℕ) (before : List Record) (slots : List P)
-    (after : List Record) (left : List P) (t : Outcomes) : Type 0 where
+    (shown_of : P → SlotShown D) (n from to : ℕ) (before : List Record) (slots : List P)
+    (after : List Record) (left : List P) (t : Outcomes) (attempts : ℕ) : Type 0 where
   pub shares : List (Share (SlotShown D))
-  pub each : Paired (λ p x. HasKeptShare leads s n (shown_of p) x) slots shares
+  pub each : Paired (λ p x. HasKeptShare leads s n from to (shown_of p) x) slots shares
   pub left_are : Paired (λ x p. shown_of p ≡ x.left) shares left
   pub rest : List Record
   pub behind : after ≡ before ++ rest
   pub each_once : InterleavedAll (λ x. x.records) shares rest
   pub tallies : t ≡ added_up (λ x. x.outcomes) shares
+  pub made : attempts ≡ sum_of (λ x. x.attempts) shares
   pub alone : length slots ≡ 1 → t.busy ≡ 0
   pub in_time : length slots ≡ 1 → HasTime s → t.spent ≡ 0
 
@@ -188,8 +206,9 @@ pub record RanAll {D P : Type 0} (leads : D → ℕ → D → Type 0) (s : Setti
 -- caller's client and from these slots; the round has the results
 abbrev pub RoundHasRun : {W D : Type 0} → (D → ℕ → D → Type 0) → (W → SlotShown D) → Settings → ℕ
     → CallerShown → List W → Round W → Type 0
-RoundHasRun leads shown_of s n y slots r = RanAll leads s shown_of n y.user.value.records slots
-    r.client.value.records r.slots.items r.outcomes.outcomes
+RoundHasRun leads shown_of s n y slots r =
+    RanAll leads s shown_of n y.shared.renewal r.manager.renewal y.user.value.records slots
+    r.client.value.records r.slots.items r.outcomes.outcomes r.outcomes.attempts
 
 -- a round of a load with these settings has a slot for each client, the limit on attempts of the
 -- settings, and a solo client
@@ -316,14 +335,18 @@ pub record HasLoaded {D P : Type 0} (leads : D → ℕ → D → Type 0) (s : Se
 
 -- a load with recorders of completed calls: the recorder of the setup phase kept the calls of the
 -- setup phase, and the recorder of each client those of its client's tasks, each call once, in the
--- order of its records
+-- order of its records. A recorder whose traces are known has each attempt of its client, once, and
+-- in turn, and those of aborted attempts stay in the recorder. The attempts of all clients together
+-- are as many as the attempt statistics count
 -- Not said: which calls the recorders keep if a load is refused; that a lack of room for a call
 -- can be told from other refusals of memory.
 -- Not said: that a recorder is asked for room before its call begins, and receives the call before
 -- the call is reported to the gate.
 pub record LoadedKept {D P : Type 0} (leads : D → ℕ → D → Type 0) (s : Settings)
-    (draws_of : P → D) (state : D) (pairs : List P) (t : Outcomes) (r : Report)
+    (draws_of : P → D) (state : D) (pairs : List P) (t : Outcomes) (r : Report) (attempts : ℕ)
     (before after : RecorderContents) (befores afters : List RecorderContents) : Type 0 where
   pub loaded : HasLoaded leads s draws_of state pairs t r
-  pub opening_kept : AreKept loaded.opened before after
-  pub clients_kept : AllKept (λ x. x.records) loaded.shares befores afters
+  pub setup_attempts : ℕ
+  pub opening_kept : AreKept setup_attempts loaded.opened before after
+  pub made : attempts ≡ sum_of (λ x. x.attempts) loaded.shares
+  pub clients_kept : AllKept (λ x. x.attempts) (λ x. x.records) loaded.shares befores afters

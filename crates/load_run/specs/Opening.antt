@@ -68,7 +68,7 @@ pub record WasAnswered (command : Command) (y y' : CallerShown) (before after : 
   pub answered : Answered y.shared.renewal (task.One command ∷ []) y.user.value y'.user.value
   pub near : y'.user.value.floor ≤ y.user.value.floor + 1
   pub ready : IsAnswered y.shared y'.user.value
-  pub kept : HasKeptAdded y.user.value y'.user.value before after
+  pub kept : HasKeptAdded y.shared.renewal y.user.value y'.user.value before after
 
 -- a command of the setup phase was refused to a solo client for this reason, and added no record
 pub record WasRefused (e : Fault) (y y' : CallerShown) : Type 0 where

@@ -13,13 +13,13 @@ pub data Interleaved {A : Type 0} : List A → List A → List A → Type 0 wher
       Interleaved xs (y ∷ ys) (y ∷ zs)
 
 -- for each element, the recorder at the same position appended the calls of exactly the element's
--- records
-pub data AllKept {X : Type 0} (records_of : X → List Record)
+-- records, and the traces of the element's attempts
+pub data AllKept {X : Type 0} (attempts_of : X → ℕ) (records_of : X → List Record)
     : List X → List RecorderContents → List RecorderContents → Type 0 where
-  none_kept : AllKept records_of [] [] []
+  none_kept : AllKept attempts_of records_of [] [] []
   one_kept : {x : X} {k k' : RecorderContents} {xs : List X} {ks ks' : List RecorderContents} →
-      AreKept (records_of x) k k' → AllKept records_of xs ks ks' →
-      AllKept records_of (x ∷ xs) (k ∷ ks) (k' ∷ ks')
+      AreKept (attempts_of x) (records_of x) k k' → AllKept attempts_of records_of xs ks ks' →
+      AllKept attempts_of records_of (x ∷ xs) (k ∷ ks) (k' ∷ ks')
 
 -- the sum of f over the elements
 abbrev pub sum_of : {X : Type 0} → (X → ℕ) → List X → ℕ

@@ -1,5 +1,5 @@
 -- The contract of a load that draws its words from the generators of a seed.
-use Rattle.std.specs.Prelude.{◌≡◌, map}
+use Rattle.std.specs.Prelude.{◌≡◌, ℕ, map}
 use Rattle.rand_pcg.specs.Lcg.{Lcg}
 use Rattle.vac_model.specs.declared.replies.Report.{Report}
 use Rattle.load_tasks.specs.declared.settings.Settings.{Settings}
@@ -18,11 +18,11 @@ LoadedBySeed s t r =
 
 -- the load of a seed with recorders: the recorder of the setup phase kept the calls of the setup
 -- phase, and the recorder of each client those of its client
-abbrev pub KeptBySeed : {K : Type 0} → (K → RecorderContents) → Settings → Outcomes → Report
+abbrev pub KeptBySeed : {K : Type 0} → (K → RecorderContents) → Settings → Outcomes → Report → ℕ
     → Recorders K → Recorders K → Type 0
-KeptBySeed notes s t r before after =
+KeptBySeed notes s t r attempts before after =
     LoadedKept gives s (λ stream. stream) (stream_of s.seed 0) (streams_of s.seed s.clients) t r
-    (notes before.opening) (notes after.opening)
+    attempts (notes before.opening) (notes after.opening)
     (map notes before.clients.items) (map notes after.clients.items)
 
 -- the load of these settings that draws from the generators of its seed, with these recorders: one

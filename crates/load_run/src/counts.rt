@@ -11,7 +11,7 @@ use std::marker::Model;
 use vac_manager::{CallStatistics, Fault};
 
 /// Counts of tasks by their result, each with at most `tries` attempts, and the attempt statistics
-/// of their calls. Contracts see the counts and the limit on attempts.
+/// of their calls. Contracts see the counts, the limit on attempts, and the number of attempts.
 #[derive(Drop)]
 pub struct TaskCounts {
     outcomes: Outcomes,
@@ -26,7 +26,11 @@ impl Model for TaskCounts {
 
     ghost Value = { TaskCountsShown };
 
-    ghost view = { λ c. record { outcomes = c.outcomes; tries = c.tries } };
+    ghost view = { λ c. record {
+      outcomes = c.outcomes;
+      tries = c.tries;
+      attempts = c.statistics.attempts;
+    } };
 
     ghost invariant = { λ c. AreStatistics c.tries c.outcomes c.statistics × (c.tries ≤
         MOST_TRIES) };
@@ -52,7 +56,10 @@ impl TaskCounts {
         requires in_range { IfErr end.now (λ fault. fault ≢ Fault.Arguments) }
         requires took { AreStatistics self.old.tries (counted end.now nothing)
             (with_call statistics.now no_attempts) }
-        ensures { self.new ≡ record self.old { outcomes = counted end.now self.old.outcomes } }
+        ensures { self.new ≡ record self.old {
+          outcomes = counted end.now self.old.outcomes;
+          attempts = self.old.attempts + statistics.now.attempts;
+        } }
     {
         self.outcomes.count(end);
         self.statistics.add(statistics);
@@ -60,12 +67,15 @@ impl TaskCounts {
 
     /// Adds up the counts of both.
     ///
-    /// Not said: that the attempt statistics are added up. The clause of `apart` says which sums
+    /// Not said: that the counts of conflicts are added up. The clause of `apart` says which sums
     /// fit.
     pub fn plus(self, other: TaskCounts) -> TaskCounts
         requires fits { total self.outcomes + total other.outcomes < 2 ^ 43 }
         requires same { other.tries ≡ self.tries }
-        ensures { result ≡ record self { outcomes = plus self.outcomes other.outcomes } }
+        ensures { result ≡ record self {
+          outcomes = plus self.outcomes other.outcomes;
+          attempts = self.attempts + other.attempts;
+        } }
     {
         TaskCounts {
             outcomes: self.outcomes.plus(other.outcomes),
@@ -78,6 +88,7 @@ impl TaskCounts {
     pub fn apart(self) -> (Outcomes, AttemptStatistics)
         ensures outcomes { result.0 ≡ self.outcomes }
         ensures statistics { AreStatistics self.tries result.0 result.1 }
+        ensures attempts { result.1.attempts ≡ self.attempts }
     {
         (self.outcomes, self.statistics)
     }

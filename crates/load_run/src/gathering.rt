@@ -6,6 +6,7 @@ ghost use Rattle.vac_model.specs.declared.limits.TheConstants.{MOST_TRIES};
 ghost use Rattle.load_tasks.specs.declared.settings.TheConstants.{MOST_CLIENTS};
 ghost use Rattle.load_run.specs.Lists.{Paired};
 ghost use Rattle.load_run.specs.Load.{Gathered, CanGather, IsCrew};
+ghost use Rattle.load_run.specs.Several.{sum_of};
 
 use crate::TaskCounts;
 use crate::load::LoadFault;
@@ -29,6 +30,8 @@ pub(crate) fn gather_all<W: Drop>(
         crew.entry.first crew.entry.others.items result.0.value.records
         result.2.outcomes }
     ensures tries { result.2.tries ≡ crew.entry.first.outcomes.tries }
+    ensures attempts { result.2.attempts
+        ≡ sum_of (λ w. w.outcomes.attempts) (crew.entry.first ∷ crew.entry.others.items) }
     ensures slots { Paired (λ w slot. slot ≡ w.slot)
         (crew.entry.first ∷ crew.entry.others.items) result.1.items }
 {

@@ -60,7 +60,7 @@ fn open_load<D: Draws, K: Recorder>(
     ensures opened { IfOk result (λ r. HasOpened D.leads settings.now opening.old opening.new
         (caller_of r.0 r.1)) }
     ensures alone { IfOk result (λ r. IsAloneInRenewal (caller_of r.0 r.1)) }
-    ensures kept { IfOk result (λ r. AreKept r.1.value.records
+    ensures kept { IfOk result (λ r. AreKept r.1.value.attempt.number r.1.value.records
         (contents K.notes K.traced keep.old) (contents K.notes K.traced keep.new)) }
     ensures stopped { IfErr result (λ fault.
         IsStopOfLoad D.leads settings.now opening.old opening.new fault) }
@@ -176,7 +176,7 @@ impl<D: Draws + Send + Drop, G: Gate + Send + Drop, K: Recorder + Send + Drop> L
     where
         K::Tracing: Send,
         ensures kept { IfOk result (λ r. LoadedKept D.leads self.plan.settings (λ slot. slot.draws)
-            self.draws self.slots.items r.0.outcomes r.0.report
+            self.draws self.slots.items r.0.outcomes r.0.report r.1.attempts
             (contents K.notes K.traced self.keep) (contents K.notes K.traced r.2.opening)
             (kept_at (contents K.notes K.traced) self.slots.items)
             (map (contents K.notes K.traced) r.2.clients.items)) }

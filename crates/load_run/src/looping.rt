@@ -1,6 +1,6 @@
 //! The loop of one client over its tasks.
 
-ghost use Rattle.std.specs.Prelude.{◌≡◌, true};
+ghost use Rattle.std.specs.Prelude.{◌≡◌, ◌+◌, true};
 ghost use Rattle.vac_manager.specs.Called.{HasAllGrants};
 ghost use Rattle.load_tasks.specs.Setting.{is_settings};
 ghost use Rattle.stm_object.specs.Callers.{GoesOn};
@@ -34,7 +34,10 @@ pub fn count_loop<D: Draws, G: Gate, K: Recorder>(
     ensures clock { HasAllGrants caller.old.user.value → Clocked caller.old.shared.last
         caller.old.user.value caller.new.user.value result.outcomes }
     ensures tries { result.tries ≡ settings.now.tries }
-    ensures kept { HasKeptAdded caller.old.user.value caller.new.user.value
+    ensures attempts { caller.old.user.value.attempt.number + result.attempts
+        ≡ caller.new.user.value.attempt.number }
+    ensures kept { HasKeptAdded caller.old.shared.renewal
+        caller.old.user.value caller.new.user.value
         (contents K.notes K.traced keep.old) (contents K.notes K.traced keep.new) }
 {
     let mut outcomes = TaskCounts::new(settings.tries);

@@ -63,7 +63,8 @@ fn add_item<D: Draws, K: Recorder>(
     requires id { 1 ≤ id }
     ensures asked { RanOrStopped D.leads (stock id kind) result
         caller.old caller.new draws.old draws.new }
-    ensures kept { IfOk result (λ _. HasKeptAdded caller.old.user.value caller.new.user.value
+    ensures kept { IfOk result (λ _. HasKeptAdded caller.old.shared.renewal
+        caller.old.user.value caller.new.user.value
         (contents K.notes K.traced keep.old) (contents K.notes K.traced keep.new)) }
 {
     let command = draw_stock(draws, id, kind);
@@ -81,7 +82,8 @@ fn add_items<D: Draws, K: Recorder>(
     requires id { 1 ≤ id }
     ensures asked { RanOrStopped D.leads (stocks id) result
         caller.old caller.new draws.old draws.new }
-    ensures kept { IfOk result (λ _. HasKeptAdded caller.old.user.value caller.new.user.value
+    ensures kept { IfOk result (λ _. HasKeptAdded caller.old.shared.renewal
+        caller.old.user.value caller.new.user.value
         (contents K.notes K.traced keep.old) (contents K.notes K.traced keep.new)) }
 {
     add_item(caller, draws, id, Kind::Car, keep)?;
@@ -105,7 +107,8 @@ pub fn open_kept<D: Draws, K: Recorder>(
     requires settings { is_settings settings.now ≡ true }
     ensures opened { OpeningEnded D.leads settings.now result
         caller.old caller.new draws.old draws.new }
-    ensures kept { IfOk result (λ _. HasKeptAdded caller.old.user.value caller.new.user.value
+    ensures kept { IfOk result (λ _. HasKeptAdded caller.old.shared.renewal
+        caller.old.user.value caller.new.user.value
         (contents K.notes K.traced keep.old) (contents K.notes K.traced keep.new)) }
 {
     'items: for place in 0..settings.items {

@@ -8,7 +8,8 @@ use Rattle.load_run.specs.Lists.{Paired}
 use Rattle.load_run.specs.Load.{Gathered, IsMember}
 use Rattle.load_run.proofs.Pairs.{all_met, paired_none, paired_step, one_on, all_same, all_but_first, all_first}
 use Rattle.load_run.proofs.Pairs.{room_left, room_taken, held_back, nothing_left}
-use Rattle.load_run.proofs.Gatherings.{gathered_one, gathered_more, took_in}
+use Rattle.load_run.specs.Several.{sum_of}
+use Rattle.load_run.proofs.Gatherings.{gathered_one, gathered_more, sum_one, sum_on, took_in}
 use Rattle.load_run.proofs.gathering.gather_all.Goals as goal
 
 -- so many more workers have no more tasks
@@ -34,6 +35,7 @@ loop-worker-init g c =
       others = all_same (IsMember c.args.crew.first) c.args.crew.others.items
           (into_iter_items c.into_iter-worker-iterator.result) made.0 c.requires.can.others;
       tries = refl;
+      attempts = sum_one (λ w. w.outcomes.attempts) c.args.crew.first;
       gathered = gathered_one (λ w. w.caller.user.value.records) (λ w. w.outcomes.outcomes) c.args.crew.first;
       handed = paired_step (λ w slot. slot ≡ w.slot) []
           c.args.slots.items c.push_reserved.new.self.items c.args.crew.first c.args.crew.first.slot pushed.items
@@ -82,6 +84,9 @@ loop-worker-preserved g c =
       others = all_but_first (IsMember c.args.crew.first) (into_iter_items c.loop-worker.worker-iterator)
           (into_iter_items c.next.new.self) c.in-Some.worker split i.others;
       tries = ap (λ (x : TaskCountsShown). x.tries) c.plus-outcomes.ensures ∙ i.tries;
+      attempts = sum_on (λ w. w.outcomes.attempts) c.args.crew.first c.loop-worker.yielded c.in-Some.worker
+          c.loop-worker.outcomes.attempts c.plus-outcomes.result.attempts i.attempts
+          (ap (λ (x : TaskCountsShown). x.attempts) c.plus-outcomes.ensures);
       gathered = gathered_more (λ w. w.caller.user.value.records)
           (λ w. w.outcomes.outcomes) c.args.crew.first c.loop-worker.yielded c.in-Some.worker
           c.loop-worker.caller.user.value c.gather.new.self.user.value c.loop-worker.outcomes.outcomes
@@ -108,6 +113,14 @@ returns-clause-gathered g c =
     (all_met c.args.crew.others.items c.loop-worker.yielded (into_iter_items c.loop-worker.worker-iterator)
     c.loop-worker.invariant.all (nothing_left c.loop-worker.worker-iterator c.in-None.ensures.steps.0))
     c.loop-worker.invariant.gathered)
+
+pub returns-clause-attempts : goal.returns-clause-attempts
+returns-clause-attempts g c =
+    subst (λ (l : List _). c.loop-worker.outcomes.attempts ≡ sum_of (λ w. w.outcomes.attempts)
+    (c.args.crew.first ∷ l))
+    (all_met c.args.crew.others.items c.loop-worker.yielded (into_iter_items c.loop-worker.worker-iterator)
+    c.loop-worker.invariant.all (nothing_left c.loop-worker.worker-iterator c.in-None.ensures.steps.0))
+    c.loop-worker.invariant.attempts
 
 pub returns-clause-slots : goal.returns-clause-slots
 returns-clause-slots g c =

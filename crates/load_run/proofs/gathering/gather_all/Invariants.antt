@@ -4,6 +4,7 @@ use Rattle.std.specs.Vec.Iter.{into_iter_items, into_iter_len}
 use Rattle.load_run.specs.Looping.{total}
 use Rattle.load_run.specs.Lists.{Paired}
 use Rattle.load_run.specs.Load.{Gathered, IsMember}
+use Rattle.load_run.specs.Several.{sum_of}
 use Rattle.load_run.proofs.gathering.gather_all.Given as goal
 
 abbrev pub invariant-loop-worker : goal.invariant-loop-worker
@@ -13,6 +14,7 @@ invariant-loop-worker g l = record {
   grants : l.caller.user.value.grants + into_iter_len l.worker-iterator ≡ MOST_GRANTS;
   others : All (IsMember l.fn.crew.first) (into_iter_items l.worker-iterator);
   tries : l.outcomes.tries ≡ l.fn.crew.first.outcomes.tries;
+  attempts : l.outcomes.attempts ≡ sum_of (λ w. w.outcomes.attempts) (l.fn.crew.first ∷ l.yielded);
   gathered : Gathered (λ w. w.caller.user.value.records)
       (λ w. w.outcomes.outcomes) l.fn.crew.first l.yielded l.caller.user.value.records l.outcomes.outcomes;
   handed : Paired (λ w slot. slot ≡ w.slot) (l.fn.crew.first ∷ l.yielded) l.slots.items;

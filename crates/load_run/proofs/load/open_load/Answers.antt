@@ -1,4 +1,4 @@
-use Rattle.std.proofs.Common.{rules, inl, refl, ap, subst, sym, List, ◌++◌}
+use Rattle.std.proofs.Common.{rules, inl, refl, ap, subst, sym, ◌≡◌, List, ◌++◌, arith}
 use Rattle.stm_core.specs.Client.{Record}
 use Rattle.vac_manager.specs.Called.{ClientShown, CallerShown}
 use Rattle.load_tasks.specs.Tasks.{opening}
@@ -6,7 +6,7 @@ use Rattle.load_run.specs.Keeping.{HasKeptAdded, contents}
 use Rattle.load_run.specs.Opening.{RanIn, StoppedIn, IsAnswered}
 use Rattle.load_run.proofs.Eras.{opened_in}
 use Rattle.load_run.proofs.Loads.{was_stopped}
-use Rattle.load_run.proofs.Notes.{kept_added}
+use Rattle.load_run.proofs.Notes.{kept_all}
 use Rattle.load_run.proofs.load.open_load.Goals as goal
 
 pub returns-clause-alone : goal.returns-clause-alone
@@ -40,9 +40,12 @@ pub returns-clause-kept : goal.returns-clause-kept
 returns-clause-kept g c =
     let after = c.open_kept.new.caller.user.value in
     let empty = ap (λ (x : ClientShown). x.value.records) c.in-Ok.ensures.ok.client_is in
-    rw c.into_user-client.ensures.user (kept_added c.in-Ok.client.value after after.records _ _
-    (sym (ap (λ (l : List Record). l ++ after.records) empty))
-    (subst (λ (y : CallerShown). HasKeptAdded y.user.value after
+    let number : c.in-Ok.client.value.attempt.number ≡ 0 =
+    ap (λ (x : ClientShown). x.value.attempt.number) c.in-Ok.ensures.ok.client_is in
+    rw c.into_user-client.ensures.user (kept_all c.in-Ok.manager.renewal c.in-Ok.client.value after
+    after.attempt.number after.records _ _ (sym (ap (λ (l : List Record). l ++ after.records) empty))
+    (omega (arith, number))
+    (subst (λ (y : CallerShown). HasKeptAdded y.shared.renewal y.user.value after
     (contents g.K.Recorder.notes g.K.Recorder.traced c.args.keep.now)
     (contents g.K.Recorder.notes g.K.Recorder.traced c.open_kept.new.keep)) c.caller-caller.ensures
     c.in_default-open_kept.ensures.kept))

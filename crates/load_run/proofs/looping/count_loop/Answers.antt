@@ -1,11 +1,12 @@
-use Rattle.std.proofs.Common.{rules, refl, ◌≡◌, ℕ, true, sym, ap, subst, ◌∙◌, Result, Err, IfOk}
+use Rattle.std.proofs.Common.{rules, refl, ◌≡◌, ℕ, true, sym, ap, subst, ◌∙◌, Result, Err, IfOk, arith}
 use Rattle.vac_model.specs.Ranges.{is_task}
 use Rattle.vac_model.specs.declared.tasks.Task.{Task}
 use Rattle.vac_manager.specs.declared.fault.Fault.TheVariants as fault
-use Rattle.load_run.specs.Keeping.{RecorderContents, contents}
+use Rattle.load_run.specs.Keeping.{RecorderContents, HasKeptAdded, contents}
 use Rattle.load_run.proofs.Answering.{RanOne, looped_none, looped_more}
 use Rattle.load_run.proofs.Asked.{asked_recorded, issued, issued_none, traced_by}
-use Rattle.load_run.specs.Attempted.{AreStatistics, no_attempts, with_call}
+use Rattle.vac_manager.specs.declared.placed.CallStatistics.{CallStatistics}
+use Rattle.load_run.specs.Attempted.{AreStatistics, TaskCountsShown, no_attempts, with_call}
 use Rattle.load_run.specs.Looping.{Clocked, counted, nothing}
 use Rattle.load_run.proofs.Clocking.{clocked_none, clocked_more}
 use Rattle.load_run.proofs.Callers.{of_manager}
@@ -20,7 +21,8 @@ tasks-init g c = record {
       c.args.caller.now.user.value c.args.draws.now);
   clock = λ _. rw c.new-outcomes.ensures (clocked_none c.args.caller.now.shared.last c.args.caller.now.user.value);
   tries = search rules;
-  kept = kept_none _ _ _ _ refl refl;
+  attempts = omega (arith, ap (λ (x : TaskCountsShown). x.attempts) c.new-outcomes.ensures);
+  kept = kept_none _ _ _ _ refl;
 }
 
 pub tasks-preserved-in_default : goal.tasks-preserved-in_default
@@ -45,7 +47,17 @@ tasks-preserved-in_default g c =
           (counted {R = Unit {0}} (Err fault.Memory) nothing)) c.args.caller.now c.tasks.caller
           c.tasks.invariant.caller (i.clock (c.tasks.invariant.looped.answered.grants ∙ alone))));
       tries = search rules;
-      kept = kept_both _ _ _ _ _ _ c.tasks.invariant.kept i.kept;
+      attempts = omega (
+        arith,
+        c.tasks.invariant.attempts,
+        ap (λ (x : TaskCountsShown). x.attempts) c.count.ensures,
+        ap (λ (x : CallStatistics). x.attempts) c.new.ensures,
+      );
+      kept = kept_both _ _ _ _ _ _ _ c.tasks.invariant.kept
+          (of_manager (λ m. HasKeptAdded m.renewal c.tasks.caller.user.value c.tasks.caller.user.value
+          (contents g.K.Recorder.notes g.K.Recorder.traced c.tasks.keep)
+          (contents g.K.Recorder.notes g.K.Recorder.traced c.with_room.new.keep)) c.args.caller.now c.tasks.caller
+          c.tasks.invariant.caller i.kept);
     }
 
 pub count-requires-in-tasks-clause-took : goal.count-requires-in-tasks-clause-took
@@ -104,5 +116,15 @@ tasks-preserved g c =
           (counted c.record_call-end.result nothing)) c.args.caller.now c.tasks.caller c.tasks.invariant.caller
           (i.clock (c.tasks.invariant.looped.answered.grants ∙ alone))));
       tries = search rules;
-      kept = kept_both _ _ _ _ _ _ c.tasks.invariant.kept i.kept;
+      attempts = omega (
+        arith,
+        c.tasks.invariant.attempts,
+        ap (λ (x : TaskCountsShown). x.attempts) c.count-in-tasks.ensures,
+        c.trace_valid-end.ensures.called.statistics.begun,
+      );
+      kept = kept_both _ _ _ _ _ _ _ c.tasks.invariant.kept
+          (of_manager (λ m. HasKeptAdded m.renewal c.tasks.caller.user.value c.trace_valid-end.new.caller.user.value
+          (contents g.K.Recorder.notes g.K.Recorder.traced c.tasks.keep)
+          (contents g.K.Recorder.notes g.K.Recorder.traced c.record_call-end.new.keep)) c.args.caller.now
+          c.tasks.caller c.tasks.invariant.caller i.kept);
     }

@@ -1,4 +1,4 @@
-use Rattle.std.proofs.Common.{◌≡◌}
+use Rattle.std.proofs.Common.{◌≡◌, ◌+◌}
 use Rattle.stm_object.specs.Callers.{GoesOn}
 use Rattle.load_run.specs.Keeping.{HasKeptAdded, contents}
 use Rattle.load_run.specs.Looping.{Looped, Clocked}
@@ -13,7 +13,8 @@ invariant-tasks g l = record {
   clock : HasAllGrants l.fn.caller.user.value → Clocked l.fn.caller.shared.last l.fn.caller.user.value
       l.caller.user.value l.outcomes.outcomes;
   tries : l.outcomes.tries ≡ l.fn.settings.tries;
-  kept : HasKeptAdded l.fn.caller.user.value l.caller.user.value
+  attempts : l.fn.caller.user.value.attempt.number + l.outcomes.attempts ≡ l.caller.user.value.attempt.number;
+  kept : HasKeptAdded l.fn.caller.shared.renewal l.fn.caller.user.value l.caller.user.value
       (contents g.K.Recorder.notes g.K.Recorder.traced l.fn.keep)
       (contents g.K.Recorder.notes g.K.Recorder.traced l.keep);
 }

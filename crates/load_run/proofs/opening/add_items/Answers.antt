@@ -1,8 +1,10 @@
-use Rattle.std.proofs.Common.{Ok}
+use Rattle.std.proofs.Common.{Ok, IfOk}
 use Rattle.vac_model.specs.declared.items.Kind.TheVariants.{Car, Flight, Room}
 use Rattle.load_tasks.specs.Draws.{joined}
 use Rattle.load_tasks.specs.Tasks.{stock, stocks}
+use Rattle.load_run.specs.Keeping.{HasKeptAdded, contents}
 use Rattle.load_run.proofs.Beginning.{readable_stock}
+use Rattle.load_run.proofs.Callers.{of_manager, went_both}
 use Rattle.load_run.proofs.Opened.{asked_both, asked_first, asked_handed_on}
 use Rattle.load_run.proofs.Notes.{kept_both, kept_then}
 use Rattle.load_run.proofs.opening.add_items.Goals as goal
@@ -43,5 +45,18 @@ returns-in_err-add_item-2-clause-asked g c =
 
 pub returns-clause-kept : goal.returns-clause-kept
 returns-clause-kept g c =
-    kept_then _ _ _ _ _ _ c.add_item-3.result (kept_both _ _ _ _ _ _ c.in_ok-add_item.ensures.kept
-    c.in_ok-add_item-2.ensures.kept) c.add_item-3.ensures.kept
+    let y = c.args.caller.now in
+    let z = c.add_item.new.caller in
+    let w = c.add_item-2.new.caller in
+    let first = c.in_ok-add_item.ensures.asked.caller in
+    let second = went_both y z w first c.in_ok-add_item-2.ensures.asked.caller in
+    kept_then y.shared.renewal _ _ _ _ _ _ c.add_item-3.result
+    (kept_both y.shared.renewal _ _ _ _ _ _ c.in_ok-add_item.ensures.kept
+    (of_manager (λ m. HasKeptAdded m.renewal z.user.value w.user.value
+    (contents g.K.Recorder.notes g.K.Recorder.traced c.add_item.new.keep)
+    (contents g.K.Recorder.notes g.K.Recorder.traced c.add_item-2.new.keep)) y z first
+    c.in_ok-add_item-2.ensures.kept))
+    (of_manager (λ m. IfOk c.add_item-3.result (λ _. HasKeptAdded m.renewal w.user.value
+    c.add_item-3.new.caller.user.value
+    (contents g.K.Recorder.notes g.K.Recorder.traced c.add_item-2.new.keep)
+    (contents g.K.Recorder.notes g.K.Recorder.traced c.add_item-3.new.keep))) y w second c.add_item-3.ensures.kept)

@@ -1,6 +1,7 @@
 use Rattle.std.proofs.Common.{rules, inl, inr, ◌≡◌, ◌+◌, ◌≤◌, ℕ, refl, subst, arith}
 use Rattle.load_tasks.specs.Draws.{for_each}
 use Rattle.load_tasks.specs.Tasks.{stocks}
+use Rattle.load_run.specs.Keeping.{HasKeptAdded, contents}
 use Rattle.load_run.specs.Opening.{IsAnswered, RanDrawn}
 use Rattle.load_run.proofs.Answering.{answered_quiet}
 use Rattle.load_run.proofs.Opened.{last_answered, Opening, opening_more, opening_all, asked_none, asked_more}
@@ -13,14 +14,18 @@ use Rattle.load_run.proofs.opening.open_kept.Goals as goal
 pub items-init : goal.items-init
 items-init g c = record {
   asked = asked_none g.D.Draws.leads stocks c.args.caller.now _ tt c.requires.alone;
-  kept = kept_none _ _ _ _ refl refl;
+  kept = kept_none _ _ _ _ refl;
 }
 
 pub items-preserved : goal.items-preserved
 items-preserved g c = record {
   asked = asked_more g.D.Draws.leads c.items.place stocks c.args.caller.now c.items.caller c.add_items.new.caller
       _ _ _ tt tt c.items.invariant.asked c.in_ok-add_items.ensures.asked;
-  kept = kept_both _ _ _ _ _ _ c.items.invariant.kept c.in_ok-add_items.ensures.kept;
+  kept = kept_both _ _ _ _ _ _ _ c.items.invariant.kept
+      (of_manager (λ m. HasKeptAdded m.renewal c.items.caller.user.value c.add_items.new.caller.user.value
+      (contents g.K.Recorder.notes g.K.Recorder.traced c.items.keep)
+      (contents g.K.Recorder.notes g.K.Recorder.traced c.add_items.new.keep)) c.args.caller.now c.items.caller
+      c.items.invariant.asked.caller c.in_ok-add_items.ensures.kept);
 }
 
 pub returns-in_err-add_items-clause-opened : goal.returns-in_err-add_items-clause-opened
@@ -55,7 +60,11 @@ customers-preserved g c = record {
   opening = opening_more g.D.Draws.leads c.args.settings.now.items c.customers.place c.args.caller.now
       c.customers.caller c.ask_for.new.caller _ _ _ _ c.customers.invariant.caller c.customers.invariant.opening
       c.in_ok-ask_for.ensures.answered;
-  kept = kept_both _ _ _ _ _ _ c.customers.invariant.kept c.in_ok-ask_for.ensures.answered.kept;
+  kept = kept_both _ _ _ _ _ _ _ c.customers.invariant.kept
+      (of_manager (λ m. HasKeptAdded m.renewal c.customers.caller.user.value c.ask_for.new.caller.user.value
+      (contents g.K.Recorder.notes g.K.Recorder.traced c.customers.keep)
+      (contents g.K.Recorder.notes g.K.Recorder.traced c.ask_for.new.keep)) c.args.caller.now c.customers.caller
+      c.customers.invariant.caller c.in_ok-ask_for.ensures.answered.kept);
   ready = inr (of_manager (λ m. IsAnswered m c.ask_for.new.caller.user.value) c.args.caller.now c.customers.caller
       c.customers.invariant.caller c.in_ok-ask_for.ensures.answered.ready);
 }

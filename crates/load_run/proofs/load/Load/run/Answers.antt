@@ -58,9 +58,10 @@ plus-requires g c =
     let rounds : c.rounds.done ≤ 100 = omega (arith, most.rounds, c.rounds-test.true) in
     let ran = c.rounds.invariant.ran (caller_of c.in_ok-manager.manager c.in_ok-manager.client)
     c.in_ok-round.ensures.ran in
-    let so_far = few_all _ _ _ c.rounds.done _ (ran_total _ _ _ _ _ _ _ _ _ ran) count
+    let so_far = few_all _ _ _ c.rounds.done _ (ran_total _ _ _ _ _ _ _ _ _ _ _ _ ran) count
     most.clients rounds most.tasks in
-    let more = few_each _ _ _ _ (ran_total _ _ _ _ _ _ _ _ _ c.in_ok-more.ensures.ran) here most.clients most.tasks in
+    let more = few_each _ _ _ _ (ran_total _ _ _ _ _ _ _ _ _ _ _ _ c.in_ok-more.ensures.ran) here most.clients
+    most.tasks in
     record {
       fits = omega (arith, so_far, more);
       same = c.in_ok-more.ensures.round.tries ∙ sym c.rounds.invariant.round.tries;
@@ -83,9 +84,10 @@ rounds-preserved g c =
       ran = λ y h. ran_more g.D.Draws.leads (shown (contents g.K.Recorder.notes g.K.Recorder.traced))
           c.args.self.plan.settings c.rounds.done y
           (caller_of c.in_ok-manager-2.manager c.in_ok-manager-2.client)
-          c.args.self.slots.items c.rounds.round c.in_ok-more.more c.plus.result.outcomes
-          (i.ran y h) renewed.records more.ran
-          (ap (λ (x : TaskCountsShown). x.outcomes) c.plus.ensures);
+          c.args.self.slots.items c.rounds.round c.in_ok-more.more c.plus.result
+          (i.ran y h) renewed.records (omega (arith, renewed.renewal)) more.ran
+          (ap (λ (x : TaskCountsShown). x.outcomes) c.plus.ensures)
+          (ap (λ (x : TaskCountsShown). x.attempts) c.plus.ensures);
     }
 
 pub recorders_of-clients-requires : goal.recorders_of-clients-requires
@@ -108,15 +110,17 @@ returns-clause-kept g c =
     c.args.self.slots.items c.rounds.round) done (c.rounds.invariant.ran opened c.in_ok-round.ensures.ran) in
     let size = c.rounds.invariant.size ∙ ap (λ (m : RegionShown). m.size) c.in_ok-round.ensures.manager in
     let first = c.rounds.invariant.first ∙ ap (λ (m : RegionShown). m.first) c.in_ok-round.ensures.manager in
-    rw c.apart.ensures.outcomes (kept_returned (λ slot. slot.keep) notes c.rounds.round.slots.items
+    rw c.apart.ensures.outcomes (rw c.apart.ensures.attempts (kept_returned (λ slot. slot.keep) notes
+    c.rounds.round.slots.items
     c.recorders_of-clients.result.items c.recorders_of-clients.ensures
     (λ afters. LoadedKept g.D.Draws.leads s (λ slot. slot.draws) c.args.self.draws c.args.self.slots.items
-    c.rounds.round.outcomes.outcomes c.report_of-report.result (notes c.args.self.keep) (notes c.open_load.new.keep)
+    c.rounds.round.outcomes.outcomes c.report_of-report.result c.rounds.round.outcomes.attempts
+    (notes c.args.self.keep) (notes c.open_load.new.keep)
     (kept_at notes c.args.self.slots.items) afters)
     (loaded_kept g.D.Draws.leads notes s c.args.self.draws
     c.open_load.new.opening c.args.self.slots.items opened c.rounds.round _ _ c.in_ok-words.words.items
     c.report_of-report.result n c.in_ok-manager.ensures.opened c.in_ok-manager.ensures.kept ran
-    c.in_ok-words.ensures.versioned size first c.in_ok-words.ensures.closes c.report_of-report.ensures))
+    c.in_ok-words.ensures.versioned size first c.in_ok-words.ensures.closes c.report_of-report.ensures)))
 
 pub returns-in_default-clause-refused : goal.returns-in_default-clause-refused
 returns-in_default-clause-refused g c = (c.args.self.draws, inl refl)

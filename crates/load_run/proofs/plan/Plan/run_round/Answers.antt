@@ -59,10 +59,11 @@ returns-clause-ran g c =
     let opened = c.caller-caller.ensures in
     let ready = subst (λ (y : CallerShown). IsReadyForRound c.args.self.settings y) (sym opened) c.requires.ready in
     subst (λ (y : CallerShown). RanAll g.D.Draws.leads c.args.self.settings
-    (shown (contents g.K.Recorder.notes g.K.Recorder.traced)) c.args.self.settings.tasks y.user.value.records
-    c.args.slots.items
-    c.gather_all-client.result.0.value.records c.gather_all-client.result.1.items c.gather_all-client.result.2.outcomes)
+    (shown (contents g.K.Recorder.notes g.K.Recorder.traced)) c.args.self.settings.tasks y.shared.renewal
+    y.shared.renewal y.user.value.records c.args.slots.items
+    c.gather_all-client.result.0.value.records c.gather_all-client.result.1.items c.gather_all-client.result.2.outcomes
+    c.gather_all-client.result.2.attempts)
     opened (ran_all g.D.Draws.leads (shown (contents g.K.Recorder.notes g.K.Recorder.traced)) c.args.self.settings
     c.caller-caller.result _ _ _ _
-    c.gather_all-client.result.0.value _ ready c.in_ok-crew.ensures.crew c.in_ok-crew-2.ensures.1.0
-    c.gather_all-client.ensures.gathered c.gather_all-client.ensures.slots)
+    c.gather_all-client.result.0.value _ _ ready c.in_ok-crew.ensures.crew c.in_ok-crew-2.ensures.1.0
+    c.gather_all-client.ensures.gathered c.gather_all-client.ensures.slots c.gather_all-client.ensures.attempts)
