@@ -27,3 +27,4 @@ pub mod Heap
 pub mod Loads
 pub mod Corresponding
 pub mod Made
+pub mod LoadWorked

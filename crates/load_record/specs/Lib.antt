@@ -22,3 +22,4 @@ pub mod Records
 pub mod Ordered
 pub mod Loads
 pub mod Examples
+pub mod LoadExample

@@ -1,5 +1,5 @@
 -- The attempts in notes.
-use Rattle.std.specs.Prelude.{Bool, not, List, is_some}
+use Rattle.std.specs.Prelude.{Bool, true, not, List, Option, Some, None, is_some}
 use Rattle.std.specs.List.{list_all}
 use Rattle.vac_manager.specs.declared.note.CompletedCall.{CompletedCall}
 use Rattle.vac_manager.specs.declared.note.TracedAttempt.{TracedAttempt}
@@ -11,3 +11,8 @@ all_noted calls = list_all (λ n. is_some n.attempt) calls
 -- no attempt of the list committed
 abbrev pub none_committed : List TracedAttempt → Bool
 none_committed attempts = list_all (λ a. not a.commits) attempts
+
+-- the attempt, if there is one, committed
+abbrev pub has_committed : Option TracedAttempt → Bool
+has_committed None = true
+has_committed (Some a) = a.commits

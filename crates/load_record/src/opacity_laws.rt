@@ -2,6 +2,7 @@
 
 ghost use Rattle.load_record.specs.Entries.{FewAccessesFit};
 ghost use Rattle.load_record.specs.Examples.{WorkedAttempts};
+ghost use Rattle.load_record.specs.LoadExample.{WorkedLoad};
 ghost use Rattle.load_record.specs.Judged.{AttemptTextsAreRead, TextsAreJudgedByTheirEntries};
 ghost use Rattle.load_record.specs.Judged.{TextsAreOpaqueUpToPrecedence};
 ghost use Rattle.load_record.specs.Records.{OutcomesAreJudgedApart, SerialAttemptsAreLegal};
@@ -118,4 +119,11 @@ pub fn loads_are_judged_by_their_aborts_and_times()
 /// of the times.
 pub fn worked_attempts_meet_the_conditions()
     ensures { WorkedAttempts }
+{}
+
+/// States that a small load, worked out by hand, meets the conditions of
+/// `loads_are_judged_by_their_aborts_and_times`, and that its aborted attempts and times are right:
+/// the words of one block, one completed call and one aborted attempt. So its text is opaque.
+pub fn a_worked_load_meets_the_conditions()
+    ensures { WorkedLoad }
 {}

@@ -1,7 +1,7 @@
 //! The tracer of the attempts of a client's calls.
 
 ghost use Rattle.std.specs.Prelude.{◌≡◌, true};
-ghost use Rattle.load_record.specs.Noted.{none_committed};
+ghost use Rattle.load_record.specs.Noted.{none_committed, has_committed};
 
 use crate::accesses::Accesses;
 use crate::places::first_place;
@@ -30,6 +30,7 @@ pub struct AttemptTracer<W> {
     /// True if there was room for each attempt.
     is_whole: bool,
     ghost aborted: { none_committed given_up.items ≡ true },
+    ghost commits: { has_committed committed ≡ true },
 }
 
 impl<W: StampClock> AttemptTracer<W> {
