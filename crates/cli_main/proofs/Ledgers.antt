@@ -1,8 +1,11 @@
 -- The pages of the ledgers of a load.
 use Rattle.std.proofs.Common.{◌≡◌, ◌∙◌, ◌&&◌, ◌↔◌, refl, sym, ap, subst, arith, ℕ, Bool, true, false}
-use Rattle.std.proofs.Common.{Err, nat_eq, List, [], ◌∷◌, ◌++◌, Option, Some, map}
-use Rattle.std.specs.Prelude.{IsErrOf}
+use Rattle.std.proofs.Common.{Err, nat_eq, List, [], ◌∷◌, ◌++◌, Option, Some, None, map, length, append-nil, not}
+use Rattle.std.proofs.Common.{if◌then◌else◌}
+use Rattle.std.specs.Prelude.{IsErrOf, IfSome, is_some}
+use Rattle.std.specs.Global.{Box}
 use Rattle.std.specs.List.{All, list_all}
+use Rattle.std.proofs.lemmas.List.{length-map}
 use Rattle.std.proofs.lemmas.List.Elements.{All-nil, All-cons, All-head, All-tail}
 use Rattle.std.proofs.lemmas.Bool.Decides.{nat_tests}
 use Rattle.load_run.specs.Load.{is_load}
@@ -11,11 +14,16 @@ use Rattle.load_tasks.specs.Setting.{is_settings}
 use Rattle.vac_manager.specs.declared.note.CompletedCall.{CompletedCall}
 use Rattle.vac_manager.specs.declared.note.TracedAttempt.{TracedAttempt}
 use Rattle.vac_manager.specs.Tracing.{Trace, trace_of}
-use Rattle.load_run.specs.Keeping.{ReadsOneImageIfAborted}
+use Rattle.stm_core.specs.History.{Sub, done, keep, skip}
+use Rattle.load_run.specs.Lists.{Paired, none, both}
+use Rattle.load_run.specs.Made.{ReadsOneImageIfAborted, committed_in, aborted_in, AreAscending, IsNotedWith}
+use Rattle.load_run.specs.Several.{Interleaved, no_more, of_first, of_second}
+use Rattle.load_run.proofs.Making.{aborted_both, aborted_one}
 use Rattle.load_record.specs.declared.ledger.AttemptRecorder.{AttemptRecorder}
 use Rattle.vac_lines.specs.Writing.{AppendsPrefix}
 use Rattle.load_record.specs.Known.{known, committed_trace, ended_by, is_whole_ledger, are_whole_ledgers}
-use Rattle.load_record.specs.Pages.{page_of, pages_of, calls_on}
+use Rattle.load_record.specs.Noted.{all_noted, none_committed, has_committed}
+use Rattle.load_record.specs.Pages.{page_of, pages_of, calls_on, noted_attempt, attempts_of}
 use Rattle.load_record.specs.Text.{WroteAttempts, WroteAttemptsPrefix, AreTooLong}
 use Rattle.load_record.specs.Loads.{MadeHistory}
 use Rattle.load_record.proofs.Made.{made_their_history, judged_by_aborts_and_times}
@@ -23,7 +31,8 @@ use Rattle.load_run.specs.declared.load.LoadFault.TheVariants as load
 use Rattle.load_run.specs.declared.load.LoadFault.{LoadFault}
 use Rattle.cli_main.specs.Ending.{long_attempt_line}
 use Rattle.cli_main.specs.Load.{HasNoted, WroteLoadAttempts, WroteLoadAttemptsInPart, HasLongAttempt}
-use Rattle.cli_main.specs.Load.{GivenUpReadOneImage}
+use Rattle.cli_main.specs.Load.{AreAllTraces, GivenUpReadOneImage, IsWholePage}
+use Rattle.vac_manager.specs.Keeping.{IsNoted}
 use Rattle.cli_main.proofs.LoadEnds.{few_blocks, both_first, both_second}
 use Rattle.cli_main.proofs.Recorded.{made_history}
 
@@ -36,13 +45,23 @@ same_pages : {W : Type 0} (clients : List (AttemptRecorder W)) → map (λ page.
 same_pages [] = refl
 same_pages (c ∷ clients) = ap (λ (l : List (List CompletedCall)). journal_calls c ∷ l) (same_pages clients)
 
--- ---- aborted attempts
+-- ---- attempts
+
+whole_ledger : (a b c d : Bool) → (a && b && (c && d)) ≡ true → a ≡ true
+whole_ledger true b c d h = refl
+whole_ledger false b c d h = absurd (let n : false ≡ true = h in cc)
 
 whole_trail : (a b c d : Bool) → (a && b && (c && d)) ≡ true → c ≡ true
 whole_trail a b true d h = refl
 whole_trail true true false d h = absurd (let n : false ≡ true = h in cc)
 whole_trail true false false d h = absurd (let n : false ≡ true = h in cc)
 whole_trail false b false d h = absurd (let n : false ≡ true = h in cc)
+
+-- a sublist has what all elements have
+all_sub : {A : Type 0} (P : A → Type 0) {xs ys : List A} → Sub xs ys → All P ys → All P xs
+all_sub P (done {ys = ys}) h = All-nil P
+all_sub P (keep x {xs = xs} {ys = ys} p) h = All-cons P x xs (All-head P x ys h) (all_sub P p (All-tail P x ys h))
+all_sub P (skip y {xs = xs} {ys = ys} p) h = all_sub P p (All-tail P y ys h)
 
 all_mapped : (notes : List TracedAttempt) (more : List Trace) →
     All ReadsOneImageIfAborted (map trace_of notes ++ more) →
@@ -54,49 +73,194 @@ all_mapped (a ∷ notes) more h =
     (All-head ReadsOneImageIfAborted (trace_of a) rest h)
     (all_mapped notes more (All-tail ReadsOneImageIfAborted (trace_of a) rest h))
 
--- each aborted attempt of a ledger, if all are known, read one image
-abbrev pub LedgerReadsOneImage : {W : Type 0} → AttemptRecorder W → Type 0
-LedgerReadsOneImage ledger =
-    (all : List Trace) → ended_by ledger.trail ≡ Some all → All ReadsOneImageIfAborted all
+not_both : (c rest : Bool) → (not c && rest) ≡ true → c ≡ false
+not_both false rest h = refl
+not_both true rest h = absurd (let n : false ≡ true = h in cc)
 
-page_aborted : {W : Type 0} (ledger : AttemptRecorder W) → is_whole_ledger ledger ≡ true →
-    LedgerReadsOneImage ledger → GivenUpReadOneImage (page_of ledger)
-page_aborted ledger whole traces =
-    let trail = ledger.trail in
-    let notes = trail.given_up.items in
-    let more = committed_trace trail.committed in
-    let all = whole_trail ledger.is_whole ledger.journal.is_whole trail.is_whole trail.accesses.is_whole whole in
-    all_mapped notes more (traces (map trace_of notes ++ more)
-    (ap (λ (b : Bool). known b (map trace_of notes ++ more)) all))
+-- attempts that aborted are the aborted ones among their traces
+aborted_mapped : (notes : List TracedAttempt) → none_committed notes ≡ true →
+    aborted_in (map trace_of notes) ≡ map trace_of notes
+aborted_mapped [] h = refl
+aborted_mapped (a ∷ notes) h = aborted_one a.commits (trace_of a) (aborted_in (map trace_of notes))
+    (map trace_of notes) (not_both a.commits (none_committed notes) h)
+    (aborted_mapped notes (both_second (not a.commits) (none_committed notes) h))
 
-pages_aborted : {W : Type 0} (ledgers : List (AttemptRecorder W)) → list_all is_whole_ledger ledgers ≡ true →
-    All LedgerReadsOneImage ledgers → All GivenUpReadOneImage (map page_of ledgers)
-pages_aborted [] whole traces = All-nil GivenUpReadOneImage
-pages_aborted (ledger ∷ ledgers) whole traces =
-    let rest = list_all is_whole_ledger ledgers in
-    All-cons GivenUpReadOneImage (page_of ledger) (map page_of ledgers)
-    (page_aborted ledger (both_first (is_whole_ledger ledger) rest whole)
-    (All-head LedgerReadsOneImage ledger ledgers traces))
-    (pages_aborted ledgers (both_second (is_whole_ledger ledger) rest whole)
-    (All-tail LedgerReadsOneImage ledger ledgers traces))
+-- the attempt at hand, if there is one, is none of them
+none_at_hand : (o : Option TracedAttempt) → has_committed o ≡ true → aborted_in (committed_trace o) ≡ []
+none_at_hand None h = refl
+none_at_hand (Some a) h = rw h refl
+
+aborted_there : (notes : List TracedAttempt) (o : Option TracedAttempt) → none_committed notes ≡ true →
+    has_committed o ≡ true → aborted_in (map trace_of notes ++ committed_trace o) ≡ map trace_of notes
+aborted_there notes o none h = aborted_both (map trace_of notes) (committed_trace o)
+    ∙ (ap (λ (l : List Trace). aborted_in (map trace_of notes) ++ l) (none_at_hand o h)
+    ∙ (append-nil (aborted_in (map trace_of notes)) ∙ aborted_mapped notes none))
+
+one_noted : (o : Option (Box TracedAttempt)) (t : Trace) (rest : List TracedAttempt) (ts : List Trace) →
+    is_some o ≡ true → IfSome o (λ a. trace_of a.value ≡ t) → map trace_of rest ≡ ts →
+    map trace_of (noted_attempt o ++ rest) ≡ t ∷ ts
+one_noted (Some a) t rest ts so e f = ap (λ (x : Trace). x ∷ map trace_of rest) e ∙ ap (λ (l : List Trace). t ∷ l) f
+one_noted None t rest ts so e f = absurd (let n : false ≡ true = so in cc)
+
+-- the noted attempts are those that committed
+noted_attempts : (calls : List CompletedCall) (ts : List Trace) → all_noted calls ≡ true →
+    Paired IsNotedWith calls ts → map trace_of (attempts_of calls) ≡ ts
+noted_attempts [] [] h none = refl
+noted_attempts (n ∷ calls) (t ∷ ts) h (both e p) =
+    one_noted n.attempt t (attempts_of calls) ts (both_first (is_some n.attempt) (all_noted calls) h) e
+    (noted_attempts calls ts (both_second (is_some n.attempt) (all_noted calls) h) p)
+noted_attempts [] (t ∷ ts) h p = elim p [ ]
+noted_attempts (n ∷ calls) [] h p = elim p [ ]
+
+parted : (c : Bool) (t : Trace) (xs ys ts : List Trace) → Interleaved xs ys ts →
+    Interleaved (if c then t ∷ xs else xs) (if c then ys else t ∷ ys) (t ∷ ts)
+parted true t xs ys ts p = of_first t p
+parted false t xs ys ts p = of_second t p
+
+-- attempts are those that committed and those that aborted
+parts : (ts : List Trace) → Interleaved (committed_in ts) (aborted_in ts) ts
+parts [] = no_more
+parts (t ∷ ts) = parted t.commits t (committed_in ts) (aborted_in ts) ts (parts ts)
+
+abbrev rest_of : List Trace → List Trace
+rest_of [] = []
+rest_of (t ∷ ts) = ts
+
+abbrev first_or : Trace → List Trace → Trace
+first_or d [] = d
+first_or d (t ∷ ts) = t
+
+-- attempts whose traces are put together
+record Together (xs ys : List TracedAttempt) (zs : List Trace) : Type 0 where
+  all : List TracedAttempt
+  same : map trace_of all ≡ zs
+  each : Interleaved xs ys all
+
+together : {as bs zs : List Trace} → Interleaved as bs zs → (xs ys : List TracedAttempt) → map trace_of xs ≡ as →
+    map trace_of ys ≡ bs → Together xs ys zs
+together no_more [] [] e f = record { all = []; same = refl; each = no_more }
+together no_more (x ∷ xs) ys e f = absurd (let n : trace_of x ∷ map trace_of xs ≡ [] = e in cc)
+together no_more [] (y ∷ ys) e f = absurd (let n : trace_of y ∷ map trace_of ys ≡ [] = f in cc)
+together (of_first t {xs = as} p) [] ys e f = absurd (let n : [] ≡ t ∷ as = e in cc)
+together (of_first t p) (x ∷ xs) ys e f =
+    let r = together p xs ys (ap rest_of e) f in
+    record {
+      all = x ∷ r.all;
+      same = ap (λ (u : Trace). u ∷ map trace_of r.all) (ap (first_or t) e) ∙ ap (λ (l : List Trace). t ∷ l) r.same;
+      each = of_first x r.each;
+    }
+together (of_second t {ys = bs} p) xs [] e f = absurd (let n : [] ≡ t ∷ bs = f in cc)
+together (of_second t p) xs (y ∷ ys) e f =
+    let r = together p xs ys e (ap rest_of f) in
+    record {
+      all = y ∷ r.all;
+      same = ap (λ (u : Trace). u ∷ map trace_of r.all) (ap (first_or t) f) ∙ ap (λ (l : List Trace). t ∷ l) r.same;
+      each = of_second y r.each;
+    }
+
+-- a ledger has all attempts of its client, if all are known
+abbrev pub LedgerHasAll : {W : Type 0} → ℕ → AttemptRecorder W → Type 0
+LedgerHasAll attempts ledger = (all : List Trace) → ended_by ledger.trail ≡ Some all →
+    AreAllTraces attempts ledger.journal.notes.items all
+
+module _ {W : Type 0} (attempts : ℕ) (ledger : AttemptRecorder W) (whole : is_whole_ledger ledger ≡ true)
+    (has : LedgerHasAll attempts ledger) where
+  abbrev traces : List Trace
+  traces = map trace_of ledger.trail.given_up.items ++ committed_trace ledger.trail.committed
+
+  known_traces : AreAllTraces attempts ledger.journal.notes.items traces
+  known_traces = has traces (ap (λ (b : Bool). known b traces)
+      (whole_trail ledger.is_whole ledger.journal.is_whole ledger.trail.is_whole ledger.trail.accesses.is_whole whole))
+
+  page_aborted : GivenUpReadOneImage (page_of ledger)
+  page_aborted = all_mapped ledger.trail.given_up.items (committed_trace ledger.trail.committed)
+      (all_sub ReadsOneImageIfAborted known_traces.are_left.among known_traces.are_made.aborted)
+
+  page_whole : IsWholePage attempts (page_of ledger)
+  page_whole =
+      let k = known_traces in
+      let given = ledger.trail.given_up.items in
+      let calls = ledger.journal.notes.items in
+      let noted = ledger.noted (whole_ledger ledger.is_whole ledger.journal.is_whole ledger.trail.is_whole
+      ledger.trail.accesses.is_whole whole) in
+      let firsts = noted_attempts calls (committed_in k.made) noted k.are_made.of_calls in
+      let seconds : map trace_of given ≡ aborted_in k.made =
+      sym (aborted_there given ledger.trail.committed ledger.trail.aborted ledger.trail.commits)
+      ∙ k.are_left.aborted in
+      let all = together (parts k.made) (attempts_of calls) given firsts seconds in
+      record {
+        made = all.all;
+        number = sym (length-map all.all trace_of) ∙ (ap (λ (l : List Trace). length l) all.same ∙ k.number);
+        each_once = all.each;
+        first = k.first;
+        last = k.last;
+        ascending = subst (λ (l : List Trace). AreAscending k.first l k.last) (sym all.same) k.are_made.ascending;
+      }
+
+module _ {X W : Type 0} (attempts_of_share : X → ℕ) where
+  pages_aborted : (ledgers : List (AttemptRecorder W)) (xs : List X) → list_all is_whole_ledger ledgers ≡ true →
+      Paired (λ ledger x. LedgerHasAll (attempts_of_share x) ledger) ledgers xs →
+      All GivenUpReadOneImage (map page_of ledgers)
+  pages_aborted [] [] whole none = All-nil GivenUpReadOneImage
+  pages_aborted (ledger ∷ ledgers) (x ∷ xs) whole (both h hs) =
+      let rest = list_all is_whole_ledger ledgers in
+      All-cons GivenUpReadOneImage (page_of ledger) (map page_of ledgers)
+      (page_aborted (attempts_of_share x) ledger (both_first (is_whole_ledger ledger) rest whole) h)
+      (pages_aborted ledgers xs (both_second (is_whole_ledger ledger) rest whole) hs)
+  pages_aborted [] (x ∷ xs) whole hs = elim hs [ ]
+  pages_aborted (ledger ∷ ledgers) [] whole hs = elim hs [ ]
+
+  pages_whole : (ledgers : List (AttemptRecorder W)) (xs : List X) → list_all is_whole_ledger ledgers ≡ true →
+      Paired (λ ledger x. LedgerHasAll (attempts_of_share x) ledger) ledgers xs →
+      Paired (λ page x. IsWholePage (attempts_of_share x) page) (map page_of ledgers) xs
+  pages_whole [] [] whole none = none
+  pages_whole (ledger ∷ ledgers) (x ∷ xs) whole (both h hs) =
+      let rest = list_all is_whole_ledger ledgers in
+      both (page_whole (attempts_of_share x) ledger (both_first (is_whole_ledger ledger) rest whole) h)
+      (pages_whole ledgers xs (both_second (is_whole_ledger ledger) rest whole) hs)
+  pages_whole [] (x ∷ xs) whole hs = elim hs [ ]
+  pages_whole (ledger ∷ ledgers) [] whole hs = elim hs [ ]
 
 -- ---- loads
 
 module _ {W : Type 0} (s : Settings) (opening : AttemptRecorder W) (clients : List (AttemptRecorder W))
     (fits : is_settings s ≡ true) (has : HasNoted s (journal_calls opening) (map journal_calls clients)) where
   has_pages : HasNoted s (page_of opening).calls (map (λ page. page.calls) (map page_of clients))
-  has_pages = subst (λ (l : List (List CompletedCall)). HasNoted s (journal_calls opening) l)
-      (sym (same_pages clients)) has
+  has_pages = record {
+    load = has.load;
+    loaded = has.loaded;
+    of_opening = has.of_opening;
+    of_clients = subst (λ (l : List (List CompletedCall)). Paired (λ notes x. Paired IsNoted notes x.records) l
+        has.loaded.shares) (sym (same_pages clients)) has.of_clients;
+  }
 
   made : MadeHistory s.blocks (calls_on (pages_of opening clients))
   made = made_history s (page_of opening) (map page_of clients) has_pages
 
+  opening_whole : are_whole_ledgers opening clients ≡ true → is_whole_ledger opening ≡ true
+  opening_whole whole = both_first (is_whole_ledger opening) (list_all is_whole_ledger clients) whole
+
+  others_whole : are_whole_ledgers opening clients ≡ true → list_all is_whole_ledger clients ≡ true
+  others_whole whole = both_second (is_whole_ledger opening) (list_all is_whole_ledger clients) whole
+
+  aborted : are_whole_ledgers opening clients ≡ true → (n : ℕ) → LedgerHasAll n opening →
+      Paired (λ ledger x. LedgerHasAll x.attempts ledger) clients has.loaded.shares →
+      All GivenUpReadOneImage (pages_of opening clients)
+  aborted whole n first others = All-cons GivenUpReadOneImage (page_of opening) (map page_of clients)
+      (page_aborted n opening (opening_whole whole) first)
+      (pages_aborted (λ x. x.attempts) clients has.loaded.shares (others_whole whole) others)
+
+  clients_whole : are_whole_ledgers opening clients ≡ true →
+      Paired (λ ledger x. LedgerHasAll x.attempts ledger) clients has.loaded.shares →
+      Paired (λ page x. IsWholePage x.attempts page) (map page_of clients) has_pages.loaded.shares
+  clients_whole whole others = pages_whole (λ x. x.attempts) clients has.loaded.shares (others_whole whole) others
+
   -- the attempts were written whole
-  pub wrote_tried : (held holds : Option (List ℕ)) → are_whole_ledgers opening clients ≡ true →
-      LedgerReadsOneImage opening → All LedgerReadsOneImage clients →
+  pub wrote_tried : (held holds : Option (List ℕ)) → are_whole_ledgers opening clients ≡ true → (n : ℕ) →
+      LedgerHasAll n opening → Paired (λ ledger x. LedgerHasAll x.attempts ledger) clients has.loaded.shares →
       WroteAttempts s.blocks (pages_of opening clients) held holds →
       WroteLoadAttempts s held holds
-  wrote_tried held holds whole first others wrote =
+  wrote_tried held holds whole n first others wrote =
       let few = few_blocks s fits in
       let pages = pages_of opening clients in
       record {
@@ -107,21 +271,25 @@ module _ {W : Type 0} (s : Settings) (opening : AttemptRecorder W) (clients : Li
         made = made;
         history = made_their_history s.blocks pages wrote.all few wrote.attempts made;
         judged = judged_by_aborts_and_times s.blocks pages wrote.all few wrote.attempts wrote.fits made;
-        aborted = pages_aborted (opening ∷ clients) whole
-            (All-cons LedgerReadsOneImage opening clients first others);
+        aborted = aborted whole n first others;
+        setup_attempts = n;
+        of_opening = page_whole n opening (opening_whole whole) first;
+        of_clients = clients_whole whole others;
       }
 
   -- a prefix of them was written
-  pub wrote_tried_in_part : (held holds : Option (List ℕ)) → are_whole_ledgers opening clients ≡ true →
-      LedgerReadsOneImage opening → All LedgerReadsOneImage clients →
+  pub wrote_tried_in_part : (held holds : Option (List ℕ)) → are_whole_ledgers opening clients ≡ true → (n : ℕ) →
+      LedgerHasAll n opening → Paired (λ ledger x. LedgerHasAll x.attempts ledger) clients has.loaded.shares →
       WroteAttemptsPrefix s.blocks (pages_of opening clients) held holds → WroteLoadAttemptsInPart s held holds
-  wrote_tried_in_part held holds whole first others wrote = record {
+  wrote_tried_in_part held holds whole n first others wrote = record {
     opening = page_of opening;
     clients = map page_of clients;
     noted = has_pages;
     written = wrote;
-    aborted = pages_aborted (opening ∷ clients) whole
-        (All-cons LedgerReadsOneImage opening clients first others);
+    aborted = aborted whole n first others;
+    setup_attempts = n;
+    of_opening = page_whole n opening (opening_whole whole) first;
+    of_clients = clients_whole whole others;
   }
 
   -- none of them was written

@@ -31,7 +31,7 @@ pub ran_by_seed : {G K : Type 0} (notes : K → RecorderContents) (s : Settings)
     IsBySeed s recorders l → HasRun notes l result → RunsKept notes s recorders result
 ran_by_seed notes s recorders l (Ok r) can is h = record {
   arguments = (λ e. absurd cc, λ f. absurd (let e = can.1 f in cc));
-  kept = kept_by_seed notes s recorders r.2 l r.0.outcomes r.0.report is h.kept;
+  kept = kept_by_seed notes s recorders r.2 l r.0.outcomes r.0.report r.1.attempts is h.kept;
   refused = tt;
 }
 ran_by_seed notes s recorders l (Err e) can is h = record {

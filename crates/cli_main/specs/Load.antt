@@ -1,6 +1,7 @@
 -- The lines that a load writes.
 use Rattle.std.specs.Prelude.{◌≡◌, ◌≢◌, ◌↔◌, ℕ, ◌⊎◌, true, false, List, ◌∷◌, ◌++◌, map}
-use Rattle.std.specs.Prelude.{[], Option, Some, None, All, codes, vec_len, Result, IfOk, IfErr, IsErrOf}
+use Rattle.std.specs.Prelude.{[], length, Option, Some, None, All, codes, vec_len, Result, IfOk, IfErr}
+use Rattle.std.specs.Prelude.{IsErrOf}
 use Rattle.std.specs.Io.KnownBytes.{Appends}
 use Rattle.vac_lines.specs.Script.{as_line}
 use Rattle.vac_lines.specs.Text.{field_text, report_text}
@@ -12,7 +13,10 @@ use Rattle.rand_pcg.specs.Lcg.{Lcg}
 use Rattle.load_tasks.specs.declared.settings.Settings.{Settings}
 use Rattle.load_tasks.specs.Setting.{is_settings}
 use Rattle.load_tasks.specs.Streams.{gives, stream_of}
+use Rattle.stm_core.specs.Client.{Record}
 use Rattle.vac_manager.specs.declared.note.CompletedCall.{CompletedCall}
+use Rattle.vac_manager.specs.declared.note.TracedAttempt.{TracedAttempt}
+use Rattle.vac_manager.specs.Placed.{CommitPosition}
 use Rattle.vac_manager.specs.Keeping.{IsNoted}
 use Rattle.vac_manager.specs.Tracing.{Trace, trace_of}
 use Rattle.load_record.specs.Turns.{EachInTurn}
@@ -20,13 +24,15 @@ use Rattle.load_record.specs.Order.{AreOrdered}
 use Rattle.load_record.specs.History.{call_of_entry, calls_text, WroteHistory, WroteHistoryPrefix}
 use Rattle.load_record.specs.Legal.{AreLegal, JudgedByPrecedence}
 use Rattle.judge_calls.specs.CallText.{IsTheirHistory}
-use Rattle.load_record.specs.Pages.{Page, calls_on}
+use Rattle.load_record.specs.Pages.{Page, attempts_of, calls_on}
 use Rattle.load_record.specs.Text.{WroteAttempts, WroteAttemptsPrefix, AreTooLong}
 use Rattle.load_record.specs.Loads.{MadeHistory, MadeHistoryFrom, JudgedByAbortsAndTimes}
 use Rattle.load_run.specs.Lists.{Paired}
 use Rattle.load_run.specs.declared.statistics.AttemptStatistics.{AttemptStatistics}
 use Rattle.load_run.specs.declared.slots.Recorders.{Recorders}
-use Rattle.load_run.specs.Keeping.{RecorderContents, ReadsOneImageIfAborted}
+use Rattle.load_run.specs.Keeping.{RecorderContents}
+use Rattle.load_run.specs.Made.{ReadsOneImageIfAborted, AreAscending, AreMade, AreLeft}
+use Rattle.load_run.specs.Several.{Interleaved}
 use Rattle.load_run.specs.declared.load.Load.{Load}
 use Rattle.load_run.specs.Load.{IsLoadFault, LoadedKept, StopsLoad, is_load}
 use Rattle.load_run.specs.Slots.{kept_at}
@@ -74,7 +80,7 @@ IsFaultBySeed s fault = IsLoadFault gives s (stream_of s.seed 0) fault
 pub record HasRun {G K : Type 0} (notes : K → RecorderContents) (l : Load Lcg G K)
     (result : Result (LoadReport × AttemptStatistics × Recorders K) LoadFault) : Type 0 where
   pub kept : IfOk result (λ r. LoadedKept gives l.plan.settings (λ seat. seat.draws) l.draws
-      l.slots.items r.0.outcomes r.0.report (notes l.keep) (notes r.2.opening)
+      l.slots.items r.0.outcomes r.0.report r.1.attempts (notes l.keep) (notes r.2.opening)
       (kept_at notes l.slots.items) (map notes r.2.clients.items))
   pub refused : IfErr result (λ fault. StopsLoad gives l.plan.settings l.draws fault)
 
@@ -86,7 +92,8 @@ pub record RunsKept {K : Type 0} (notes : K → RecorderContents) (s : Settings)
     (result : Result (LoadReport × AttemptStatistics × Recorders K) LoadFault) : Type 0 where
   pub arguments : IsErrOf result load.Arguments
       ↔ (is_load s (vec_len recorders.clients) ≡ false)
-  pub kept : IfOk result (λ r. KeptBySeed notes s r.0.outcomes r.0.report recorders r.2)
+  pub kept : IfOk result (λ r. KeptBySeed notes s r.0.outcomes r.0.report r.1.attempts
+      recorders r.2)
   pub refused : IfErr result (λ fault. IsFaultBySeed s fault)
 
 -- a load of these settings was stopped by a fault other than unfitting arguments, and a prefix of
@@ -144,20 +151,47 @@ pub record IsEmpty (kept : RecorderContents) : Type 0 where
   pub calls : kept.calls ≡ Some []
   pub traces : (all : List Trace) → kept.traces ≡ Some all → all ≡ []
 
--- each aborted attempt that a recorder has traced, if its traces are known, read one image
-abbrev pub AbortedReadOneImage : RecorderContents → Type 0
-AbortedReadOneImage kept =
-    (all : List Trace) → kept.traces ≡ Some all → All ReadsOneImageIfAborted all
+-- a client made this number of attempts, in turn from the first position to the last one, and these
+-- are the traces of them that stayed in its recorder: the aborted ones, each once, and those
+-- committed ones that are not in the notes of these calls
+pub record AreAllTraces (attempts : ℕ) (calls : List CompletedCall) (all : List Trace) : Type 0
+  where
+    pub first : CommitPosition
+    pub last : CommitPosition
+    pub records : List Record
+    pub made : List Trace
+    pub number : length made ≡ attempts
+    pub are_made : AreMade first last calls records made
+    pub are_left : AreLeft made all
 
--- the load ran to its end, and the recorders have its completed calls, and traces of attempts of
--- which each aborted one read one image
+-- a recorder, if its traces are known, has all of this number of attempts of its client
+abbrev pub HasAllAttempts : ℕ → RecorderContents → Type 0
+HasAllAttempts attempts kept =
+    (all : List Trace) → kept.traces ≡ Some all → AreAllTraces attempts (calls_kept kept) all
+
+-- the load ran to its end, and the recorders have its completed calls, and all attempts of the
+-- setup phase and of each client
 pub record AreNoted {K : Type 0} (notes : K → RecorderContents) (s : Settings) (k : Recorders K)
     : Type 0
   where
     pub calls : HasNoted s (calls_kept (notes k.opening))
         (map (λ x. calls_kept (notes x)) k.clients.items)
-    pub opening : AbortedReadOneImage (notes k.opening)
-    pub clients : All (λ x. AbortedReadOneImage (notes x)) k.clients.items
+    pub setup_attempts : ℕ
+    pub opening : HasAllAttempts setup_attempts (notes k.opening)
+    pub clients : Paired (λ x share. HasAllAttempts share.attempts (notes x)) k.clients.items
+        calls.loaded.shares
+
+-- the page lists all of this number of attempts of a client, each once: `made` has them in the
+-- order in which the client made them, those of the completed calls in the order of the calls, and
+-- the aborted ones in the order in which the page lists them. From one attempt to the next, the
+-- renewal does not decrease, and within a renewal the version does not
+pub record IsWholePage (attempts : ℕ) (page : Page) : Type 0 where
+  pub made : List TracedAttempt
+  pub number : length made ≡ attempts
+  pub each_once : Interleaved (attempts_of page.calls) page.given_up made
+  pub first : CommitPosition
+  pub last : CommitPosition
+  pub ascending : AreAscending first (map trace_of made) last
 
 -- each attempt listed as aborted on the page read one image
 abbrev pub GivenUpReadOneImage : Page → Type 0
@@ -206,11 +240,17 @@ pub record WroteCallsInPart (s : Settings) (held holds : Option (List ℕ)) : Ty
 -- the attempts of each client are in turn, and no attempt comes before one that had ended before it
 -- began
 -- Each attempt listed as aborted read one image: some balanced heap agrees with all its reads.
--- Not said: that each aborted attempt of the load is among them, once; its position, its client and
--- its writes. Not said: that its reads are those of the history at its position. Not said: that a
--- stamp is a reading of the clock, and that the stamps of each client are in turn. The program's
--- `opaque` judges these.
--- Not said: that nothing was left out because an attempt recorder had no room for it.
+-- For each client, the listed attempts are as many as its share of the load counts, at least one
+-- for each completed call and for each spent clock, and all allowed attempts for each busy task.
+-- There is an order of them, that in which the client made them, in which commit positions do not
+-- decrease
+-- Not said: that the client's lines have this order. They are sorted by commit position, and the
+-- order of attempts of one client at one version is not said.
+-- Not said: the writes of an aborted attempt. Not said: that its reads are those of the history at
+-- its position. Not said: that a stamp is a reading of the clock, and that the stamps of each
+-- client are in turn. The program's `opaque` judges these.
+-- Not said: the number of attempts that the load counts on the error stream. No clause speaks of
+-- that stream.
 pub record WroteLoadAttempts (s : Settings) (held holds : Option (List ℕ)) : Type 0 where
   pub opening : Page
   pub clients : List Page
@@ -220,6 +260,9 @@ pub record WroteLoadAttempts (s : Settings) (held holds : Option (List ℕ)) : T
   pub history : MadeHistoryFrom made.image made.history written.all
   pub judged : JudgedByAbortsAndTimes s.blocks written.all
   pub aborted : All GivenUpReadOneImage (opening ∷ clients)
+  pub setup_attempts : ℕ
+  pub of_opening : IsWholePage setup_attempts opening
+  pub of_clients : Paired (λ page x. IsWholePage x.attempts page) clients noted.loaded.shares
 
 -- the load ran to its end, and nothing or a prefix of the text of such attempts was written
 pub record WroteLoadAttemptsInPart (s : Settings) (held holds : Option (List ℕ)) : Type 0 where
@@ -228,6 +271,9 @@ pub record WroteLoadAttemptsInPart (s : Settings) (held holds : Option (List ℕ
   pub noted : HasNoted s opening.calls (map (λ page. page.calls) clients)
   pub written : WroteAttemptsPrefix s.blocks (opening ∷ clients) held holds
   pub aborted : All GivenUpReadOneImage (opening ∷ clients)
+  pub setup_attempts : ℕ
+  pub of_opening : IsWholePage setup_attempts opening
+  pub of_clients : Paired (λ page x. IsWholePage x.attempts page) clients noted.loaded.shares
 
 -- the load ran to its end, and no attempt was written, because one has more than 2,164,800 reads
 -- and writes, or one that is at no word of the heap; a prefix of the line of this fault was written

@@ -12,7 +12,7 @@ use stm_attempt::NoGate;
 
 /// A clock that always shows 0.
 #[derive(Clone, Copy, Drop)]
-struct Still;
+pub(crate) struct Still;
 
 impl StampClock for Still {
     ghost shows = { λ _ _ _. Unit {0} };
@@ -49,27 +49,43 @@ const ONE_QUESTION: Settings = Settings {
 /// The recorders of a load's attempts.
 type Kept = Recorders<AttemptRecorder<Still>>;
 
-/// Runs the load and returns the recorders of its attempts.
-fn attempted<R: Threads + Wait + Abort + AllocGlobal>(rt: &R) -> Kept {
+/// Runs a load and returns the number of its clients' attempts, and the recorders of all attempts.
+fn attempted<R: Threads + Wait + Abort + AllocGlobal>(rt: &R, settings: &Settings) -> (u64, Kept) {
     let alloc = rt.alloc();
     let mut clients = Vec::new(alloc);
-    clients
-        .push(AttemptRecorder::new(alloc, Still))
-        .expect(rt, "there is memory");
+    for _ in 0..settings.clients {
+        clients
+            .push(AttemptRecorder::new(alloc, Still))
+            .expect(rt, "there is memory");
+    }
     let opening = AttemptRecorder::new(alloc, Still);
     let recorders = Recorders { opening, clients };
-    let Ok(load) = Load::by_seed(alloc, &ONE_QUESTION, NoGate, recorders) else {
+    let Ok(load) = Load::by_seed(alloc, settings, NoGate, recorders) else {
         panic!(rt; "a setting is out of its range")
     };
-    let Ok((_, _, kept)) = load.run(rt) else {
+    let Ok((_, statistics, kept)) = load.run(rt) else {
         panic!(rt; "the load stopped")
     };
-    kept
+    (statistics.attempts, kept)
+}
+
+/// Returns the number of lines that begin with another client than 0.
+fn lines_of_clients(text: &[u8]) -> u64 {
+    let mut found = 0u64;
+    let mut begins = true;
+    for &byte in text {
+        if begins && byte != b'0' {
+            found = found.saturating_add(1);
+        }
+        begins = byte == b'\n';
+    }
+    found
 }
 
 #[test]
 fn attempts_of_one_question(rt: HostRuntime) {
-    let kept = attempted(&rt);
+    let (attempts, kept) = attempted(&rt, &ONE_QUESTION);
+    assert_eq!(rt; attempts, 1);
     let clients = kept.clients.as_slice();
     assert_eq!(rt; clients.len(), 1);
     let mut out = Vec::new(rt.alloc());
@@ -84,11 +100,39 @@ fn attempts_of_one_question(rt: HostRuntime) {
 /// The heap of one block ends before word 24, which the second command writes.
 #[test]
 fn attempts_outside_of_the_heap(rt: HostRuntime) {
-    let kept = attempted(&rt);
+    let (_, kept) = attempted(&rt, &ONE_QUESTION);
     let clients = kept.clients.as_slice();
     assert_eq!(rt; clients.len(), 1);
     let mut out = Vec::new(rt.alloc());
     let written = write_attempts(rt.alloc(), 1, &kept.opening, clients, &mut out);
     assert!(rt; matches!(written, Ok(false)));
     assert_eq!(rt; out.len(), 0);
+}
+
+/// The lines of the clients are as many as the attempts that the load counts.
+#[test]
+fn attempts_of_two_clients(rt: HostRuntime) {
+    let settings = Settings {
+        clients: 2,
+        ..SETTINGS
+    };
+    let (attempts, kept) = attempted(&rt, &settings);
+    let clients = kept.clients.as_slice();
+    assert_eq!(rt; clients.len(), 2);
+    let mut out = Vec::new(rt.alloc());
+    let written = write_attempts(
+        rt.alloc(),
+        settings.blocks,
+        &kept.opening,
+        clients,
+        &mut out,
+    );
+    same(
+        &rt,
+        &(
+            matches!(written, Ok(true)),
+            lines_of_clients(out.as_slice()),
+        ),
+        &(true, attempts),
+    );
 }

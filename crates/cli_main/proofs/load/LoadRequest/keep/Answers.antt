@@ -31,10 +31,10 @@ write-requires g c =
     let empty = c.in-Ok.empty in
     let number : vec_len empty.clients ≡ s.clients = rw c.in-Ok.is at c.requires.number in
     let same : length loaded.2.clients.items ≡ length empty.clients.items =
-    same_clients (contents g.K.Recorder.notes g.K.Recorder.traced) s loaded.0 empty loaded.2 kept in
+    same_clients (contents g.K.Recorder.notes g.K.Recorder.traced) s loaded.0 loaded.1.attempts empty loaded.2 kept in
     record {
       fits = fits;
-      noted = noted (contents g.K.Recorder.notes g.K.Recorder.traced) s loaded.0 empty loaded.2
+      noted = noted (contents g.K.Recorder.notes g.K.Recorder.traced) s loaded.0 loaded.1.attempts empty loaded.2
           (rw c.in-Ok.is at c.requires.opening)
           (rw c.in-Ok.is at c.requires.clients) kept;
       whole = search rules;
