@@ -136,12 +136,12 @@ record Together (xs ys : List TracedAttempt) (zs : List Trace) : Type 0 where
   same : map trace_of all ≡ zs
   each : Interleaved xs ys all
 
-together : {as bs zs : List Trace} → Interleaved as bs zs → (xs ys : List TracedAttempt) → map trace_of xs ≡ as →
+together : {us bs zs : List Trace} → Interleaved us bs zs → (xs ys : List TracedAttempt) → map trace_of xs ≡ us →
     map trace_of ys ≡ bs → Together xs ys zs
 together no_more [] [] e f = record { all = []; same = refl; each = no_more }
 together no_more (x ∷ xs) ys e f = absurd (let n : trace_of x ∷ map trace_of xs ≡ [] = e in cc)
 together no_more [] (y ∷ ys) e f = absurd (let n : trace_of y ∷ map trace_of ys ≡ [] = f in cc)
-together (of_first t {xs = as} p) [] ys e f = absurd (let n : [] ≡ t ∷ as = e in cc)
+together (of_first t {xs = us} p) [] ys e f = absurd (let n : [] ≡ t ∷ us = e in cc)
 together (of_first t p) (x ∷ xs) ys e f =
     let r = together p xs ys (ap rest_of e) f in
     record {

@@ -10,7 +10,7 @@ use crate::TaskCounts;
 use crate::gathering::{gather_all, split_crew};
 use crate::load::LoadFault;
 use crate::plan::Plan;
-use crate::slots::{Sent, Slot};
+use crate::slots::Slot;
 use crate::workers::{Crew, join_all};
 use load_tasks::Draws;
 use std::sync::Wait;
@@ -34,7 +34,12 @@ impl Plan {
     /// each in a thread of its own, and gathers their clients into the first. Memory for the
     /// threads is allocated before the first thread starts. If a thread cannot be started, those
     /// that were started are joined first.
-    pub(crate) fn run_round<R: Threads + Wait, D: Draws + Sent, G: Gate + Sent, K: Recorder + Sent>(
+    pub(crate) fn run_round<
+        R: Threads + Wait,
+        D: Draws + Send + Drop,
+        G: Gate + Send + Drop,
+        K: Recorder + Send + Drop,
+    >(
         self,
         rt: &R,
         manager: Manager,

@@ -7,11 +7,6 @@ use load_tasks::PcgDraws;
 use std::alloc::{AllocError, Global};
 use vac_manager::NoRecorder;
 
-/// Values that may go from thread to thread; a slot is such a value, with all it holds.
-pub(crate) trait Sent: Send + Drop {}
-
-impl<T: Send + Drop> Sent for T {}
-
 /// The recorders of a load: that of the setup phase, and that of each client, in the order of the
 /// clients.
 #[derive(Drop)]

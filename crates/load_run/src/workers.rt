@@ -8,7 +8,7 @@ ghost use Rattle.load_run.specs.Load.{DidWork, IsPromise};
 
 use crate::load::LoadFault;
 use crate::plan::Plan;
-use crate::slots::{Sent, Slot};
+use crate::slots::Slot;
 use crate::{TaskCounts, count_loop};
 use load_tasks::{Draws, Settings};
 use std::snapshot::Snapshot;
@@ -79,9 +79,9 @@ impl Plan {
         's,
         'm: 's,
         E,
-        D: Draws + Sent + 's,
-        G: Gate + Sent + 's,
-        K: Recorder + Sent + 's,
+        D: Draws + Send + Drop + 's,
+        G: Gate + Send + Drop + 's,
+        K: Recorder + Send + Drop + 's,
     >(
         self,
         scope: &Scope<'s, E>,
@@ -136,9 +136,9 @@ impl Plan {
         's,
         'm: 's,
         E,
-        D: Draws + Sent + 's,
-        G: Gate + Sent + 's,
-        K: Recorder + Sent + 's,
+        D: Draws + Send + Drop + 's,
+        G: Gate + Send + Drop + 's,
+        K: Recorder + Send + Drop + 's,
     >(
         self,
         scope: &Scope<'s, E>,
