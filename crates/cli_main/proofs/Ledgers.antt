@@ -92,9 +92,9 @@ none_at_hand (Some a) h = rw h refl
 
 aborted_there : (notes : List TracedAttempt) (o : Option TracedAttempt) → none_committed notes ≡ true →
     has_committed o ≡ true → aborted_in (map trace_of notes ++ committed_trace o) ≡ map trace_of notes
-aborted_there notes o none h = aborted_both (map trace_of notes) (committed_trace o)
+aborted_there notes o refused h = aborted_both (map trace_of notes) (committed_trace o)
     ∙ (ap (λ (l : List Trace). aborted_in (map trace_of notes) ++ l) (none_at_hand o h)
-    ∙ (append-nil (aborted_in (map trace_of notes)) ∙ aborted_mapped notes none))
+    ∙ (append-nil (aborted_in (map trace_of notes)) ∙ aborted_mapped notes refused))
 
 one_noted : (o : Option (Box TracedAttempt)) (t : Trace) (rest : List TracedAttempt) (ts : List Trace) →
     is_some o ≡ true → IfSome o (λ a. trace_of a.value ≡ t) → map trace_of rest ≡ ts →
@@ -253,6 +253,7 @@ module _ {W : Type 0} (s : Settings) (opening : AttemptRecorder W) (clients : Li
   clients_whole : are_whole_ledgers opening clients ≡ true →
       Paired (λ ledger x. LedgerHasAll x.attempts ledger) clients has.loaded.shares →
       Paired (λ page x. IsWholePage x.attempts page) (map page_of clients) has_pages.loaded.shares
+  unfolding has_pages
   clients_whole whole others = pages_whole (λ x. x.attempts) clients has.loaded.shares (others_whole whole) others
 
   -- the attempts were written whole

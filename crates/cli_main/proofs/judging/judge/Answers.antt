@@ -1,6 +1,7 @@
-use Rattle.std.proofs.Common.{sym, ◌∙◌, ap, is_some}
+use Rattle.std.proofs.Common.{sym, ◌∙◌, ap, subst, Bool, is_some}
 use Rattle.judge_coverage.specs.Watching.{inner_of}
 use Rattle.cli_main.specs.Asking.{JudgesAsked}
+use Rattle.cli_main.specs.Reporting.{ReportsBeside}
 use Rattle.cli_main.proofs.Judgement.{refused_as, asked_as}
 use Rattle.cli_main.proofs.Reported.{beside, reports_asked, reports_refused, through}
 use Rattle.cli_main.proofs.judging.judge.Goals as goal
@@ -27,4 +28,7 @@ returns-clause-judged g c =
 pub returns-clause-reported : goal.returns-clause-reported
 returns-clause-reported g c =
     reports_asked _ _ _ _ (sym c.refusal_of.ensures ∙ ap is_some c.in_default.is)
-    (beside _ _ _ _ _ _ _ c.judge_as-status.ensures.untold (c.measure_calls.result, c.report_calls.ensures))
+    (subst (λ (asks : Bool). ReportsBeside c.args.how.search.progress c.args.how.search.stats asks
+    c.judge_as-status.result (g.E.Write.contents c.args.errors.now) (g.E.Write.contents c.report_calls.new.errors))
+    c.is_some.ensures
+    (beside _ _ _ _ _ _ _ c.judge_as-status.ensures.untold (c.measure_calls.result, c.report_calls.ensures)))
