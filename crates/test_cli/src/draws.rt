@@ -18,9 +18,10 @@ fn draws(rt: HostRuntime) {
 fn tasks_of_one_word(rt: HostRuntime) {
     let mut draws = FixedDraws(0);
     for _ in 0..3 {
-        let is_expected = match draw_task(rt.alloc(), &mut draws, &SETTINGS) {
+        let task = draw_task(rt.alloc(), &mut draws, &SETTINGS);
+        let is_expected = match &task {
             Ok(Task::Trip { customer, asks }) => {
-                customer == 1 && asks.as_slice() == [(Kind::Car, 1)].as_slice()
+                *customer == 1 && asks.as_slice() == [(Kind::Car, 1)].as_slice()
             }
             _ => false,
         };
