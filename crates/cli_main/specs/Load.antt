@@ -240,17 +240,17 @@ pub record WroteCallsInPart (s : Settings) (held holds : Option (List ℕ)) : Ty
 -- the attempts of each client are in turn, and no attempt comes before one that had ended before it
 -- began
 -- Each attempt listed as aborted read one image: some balanced heap agrees with all its reads.
--- For each client, the listed attempts are as many as its share of the load counts, at least one
--- for each completed call and for each spent clock, and all allowed attempts for each busy task.
--- There is an order of them, that in which the client made them, in which commit positions do not
--- decrease
--- Not said: that the client's lines have this order. They are sorted by commit position, and the
--- order of attempts of one client at one version is not said.
--- Not said: the writes of an aborted attempt. Not said: that its reads are those of the history at
--- its position. Not said: that a stamp is a reading of the clock, and that the stamps of each
--- client are in turn. The program's `opaque` judges these.
--- Not said: the number of attempts that the load counts on the error stream. No clause speaks of
--- that stream.
+-- For each client, the listed attempts are as many as some share of a load counts. There is an
+-- order of them, the committed ones and the aborted ones each as listed, in which commit positions
+-- do not decrease
+-- Not said: that each aborted attempt of the load is among them, once; its client, its position and
+-- its writes; that nothing was left out because an attempt recorder had no room for it. The counts
+-- are tied to no output, so they bound no number of aborted attempts from below; how many the setup
+-- phase makes is not said.
+-- Not said: that the client made its attempts in this order, and that its lines have it.
+-- Not said: that the reads of an aborted attempt are those of the history at its position. Not
+-- said: that a stamp is a reading of the clock, and that the stamps of each client are in turn. The
+-- program's `opaque` judges these.
 pub record WroteLoadAttempts (s : Settings) (held holds : Option (List ℕ)) : Type 0 where
   pub opening : Page
   pub clients : List Page

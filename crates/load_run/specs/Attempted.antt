@@ -80,9 +80,9 @@ uncounted tries = record { outcomes = nothing; tries = tries; attempts = 0 }
 -- conflict except a lost tick is also counted by the word that its lock guards
 -- Not said: of a single task, that a busy task met exactly `tries` conflicts and that no task took
 -- more attempts. Only the sums are compared.
--- Not said: the kind of a conflict, or the word that its lock guards. That no attempt is left out
--- together with its conflict is a clause of the load: the attempts of the shares of its clients add
--- up to those of the statistics (`made` of `LoadedKept`).
+-- Not said: the kind of a conflict, or the word that its lock guards; that no attempt is left out
+-- together with its conflict. `made` of `LoadedKept` compares with the traced attempts, if these
+-- are known; only `count_loop` ties the number to the client.
 pub record AreStatistics (tries : ℕ) (t : Outcomes) (e : AttemptStatistics) : Type 0 where
   pub least : conflicts_in e + t.answered + t.spent ≤ e.attempts
   pub most : e.attempts ≤ conflicts_in e + t.answered + t.memory + t.spent
