@@ -437,7 +437,8 @@ def holds_agreement(program, folder):
             want(forbids is None or not levels.allowed[forbids], f"seed {seed}: {finding.kind.name}, which {forbids}"
                  f" forbids, although it allows the calls: {lines}")
             want("(P4)" not in finding.kind.title() or not levels.allowed[SNAPSHOT], f"seed {seed}: P4: {lines}")
-            text = explanation([finding], read, [*verdict, "states 3"], 3, []).split("\n")
+            told = [line for line in verdict if not line.startswith("states ")] + ["states 3"]
+            text = explanation([finding], read, told, 3, []).split("\n")
             want(len(finding.few.calls) > 4 or "right is" in " ".join(text), f"seed {seed}: no order: {text}")
             want(len(text) <= MOST_LINES and max(map(len, text)) <= MOST_WIDTH, f"seed {seed}: too long: {text}")
             want("illegal part" not in verdict[0] or "just before, 3 states were" in " ".join(
