@@ -1,32 +1,42 @@
 -- The pages of the ledgers of a load.
-use Rattle.std.proofs.Common.{◌≡◌, ◌∙◌, ◌&&◌, ◌↔◌, refl, sym, ap, subst, arith, ℕ, Bool, true, false}
+use Rattle.std.proofs.Common.{◌≡◌, ◌∙◌, ◌&&◌, ◌↔◌, refl, sym, ap, subst, inl, inr, suc, arith, ℕ, Bool, true, false}
 use Rattle.std.proofs.Common.{Err, nat_eq, List, [], ◌∷◌, ◌++◌, Option, Some, None, map, length, append-nil, not}
 use Rattle.std.proofs.Common.{if◌then◌else◌}
 use Rattle.std.specs.Prelude.{IsErrOf, IfSome, is_some}
 use Rattle.std.specs.Global.{Box}
+use Rattle.std.specs.FinMap.{get}
 use Rattle.std.specs.List.{All, list_all}
 use Rattle.std.proofs.lemmas.List.{length-map}
 use Rattle.std.proofs.lemmas.List.Elements.{All-nil, All-cons, All-head, All-tail}
 use Rattle.std.proofs.lemmas.Bool.Decides.{nat_tests}
-use Rattle.load_run.specs.Load.{is_load}
+use Rattle.tx_memory.specs.Image.{In, Has, Agrees}
+use Rattle.tx_memory.specs.Paired.{agrees-map_of}
+use Rattle.stm_core.specs.Client.{Record, Aborted}
+use Rattle.stm_core.proofs.Lists.{nothing_in}
+use Rattle.stm_core.proofs.Orders.{in_cons}
+use Rattle.stm_object.specs.declared.place.CommitPosition.{CommitPosition}
+use Rattle.load_run.specs.Load.{is_load, HaveRead}
 use Rattle.load_tasks.specs.declared.settings.Settings.{Settings}
 use Rattle.load_tasks.specs.Setting.{is_settings}
 use Rattle.vac_manager.specs.declared.note.CompletedCall.{CompletedCall}
 use Rattle.vac_manager.specs.declared.note.TracedAttempt.{TracedAttempt}
 use Rattle.vac_manager.specs.Tracing.{Trace, trace_of}
-use Rattle.stm_core.specs.History.{Sub, done, keep, skip}
+use Rattle.stm_core.specs.History.{Sub, done, keep, skip, image_upto}
 use Rattle.load_run.specs.Lists.{Paired, none, both}
-use Rattle.load_run.specs.Made.{ReadsOneImageIfAborted, committed_in, aborted_in, AreAscending, IsNotedWith}
+use Rattle.load_run.specs.Made.{ReadsOneImageIfAborted, IsTraceOfListed, committed_in, aborted_in, AreAscending}
+use Rattle.load_run.specs.Made.{IsNotedWith}
 use Rattle.load_run.specs.Several.{Interleaved, no_more, of_first, of_second}
 use Rattle.load_run.proofs.Making.{aborted_both, aborted_one}
 use Rattle.load_record.specs.declared.ledger.AttemptRecorder.{AttemptRecorder}
 use Rattle.vac_lines.specs.Writing.{AppendsPrefix}
 use Rattle.load_record.specs.Known.{known, committed_trace, ended_by, is_whole_ledger, are_whole_ledgers}
 use Rattle.load_record.specs.Noted.{all_noted, none_committed, has_committed}
-use Rattle.load_record.specs.Pages.{page_of, pages_of, calls_on, noted_attempt, attempts_of}
+use Rattle.load_record.specs.Pages.{Page, page_of, pages_of, calls_on, noted_attempt, attempts_of}
 use Rattle.load_record.specs.Text.{WroteAttempts, WroteAttemptsPrefix, AreTooLong}
 use Rattle.load_record.specs.Loads.{MadeHistory}
-use Rattle.load_record.proofs.Made.{made_their_history, judged_by_aborts_and_times}
+use Rattle.load_record.proofs.Made.{made_their_history}
+use Rattle.load_record.specs.InPlace.{ReadsAtItsPlace, AbortedReadAtTheirPlaces}
+use Rattle.load_record.proofs.AtPlaces.{judged_by_times}
 use Rattle.load_run.specs.declared.load.LoadFault.TheVariants as load
 use Rattle.load_run.specs.declared.load.LoadFault.{LoadFault}
 use Rattle.cli_main.specs.Ending.{long_attempt_line}
@@ -159,22 +169,60 @@ together (of_second t p) xs (y ∷ ys) e f =
     }
 
 -- a ledger has all attempts of its client, if all are known
-abbrev pub LedgerHasAll : {W : Type 0} → ℕ → AttemptRecorder W → Type 0
-LedgerHasAll attempts ledger = (all : List Trace) → ended_by ledger.trail ≡ Some all →
-    AreAllTraces attempts ledger.journal.notes.items all
+abbrev pub LedgerHasAll : {W : Type 0} → List ℕ → List Record → ℕ → AttemptRecorder W → Type 0
+LedgerHasAll image history attempts ledger = (all : List Trace) → ended_by ledger.trail ≡ Some all →
+    AreAllTraces image history attempts ledger.journal.notes.items all
 
-module _ {W : Type 0} (attempts : ℕ) (ledger : AttemptRecorder W) (whole : is_whole_ledger ledger ≡ true)
-    (has : LedgerHasAll attempts ledger) where
+-- the aborted attempts of a list read the images of their read versions
+abbrev AllReadPlaces : List ℕ → List Record → List TracedAttempt → Type 0
+AllReadPlaces image history notes = (a : TracedAttempt) → In a notes → ReadsAtItsPlace image history a
+
+one_read : (image : List ℕ) (history : List Record) (a : TracedAttempt) (b : Aborted) → IsTraceOfListed (trace_of a) b →
+    Agrees (image_upto image b.renewal b.version history) b.reads → ReadsAtItsPlace image history a
+one_read image history a b h agrees = record {
+  reader = ap (λ (p : CommitPosition). p.wrote) h.place;
+  reads = record {
+    agrees = λ address value is. subst
+        (λ (p : CommitPosition). Has (image_upto image p.renewal p.version history) address value) (sym h.place)
+        (agrees-map_of (image_upto image b.renewal b.version history) b.reads agrees address value
+        (subst (λ m. get m address ≡ Some value) (sym h.reads) is));
+    right = h.right;
+  };
+}
+
+all_read : (image : List ℕ) (history : List Record) (notes : List TracedAttempt) (aborts : List Aborted) →
+    Paired IsTraceOfListed (map trace_of notes) aborts → HaveRead image history aborts →
+    AllReadPlaces image history notes
+all_read image history [] aborts h read a i = absurd (nothing_in a i)
+all_read image history (n ∷ notes) (b ∷ aborts) (both h hs) read a i = elim (in_cons n a notes i) [
+  | inl e ↦ subst (λ (x : TracedAttempt). ReadsAtItsPlace image history x) e
+      (one_read image history n b h (read b (0, refl)))
+  | inr j ↦ all_read image history notes aborts hs (λ x k. read x (suc k.0, k.1)) a j
+]
+all_read image history (n ∷ notes) [] h read a i = elim h [ ]
+
+module _ {W : Type 0} (image : List ℕ) (history : List Record) (attempts : ℕ) (ledger : AttemptRecorder W)
+    (whole : is_whole_ledger ledger ≡ true) (has : LedgerHasAll image history attempts ledger) where
   abbrev traces : List Trace
   traces = map trace_of ledger.trail.given_up.items ++ committed_trace ledger.trail.committed
 
-  known_traces : AreAllTraces attempts ledger.journal.notes.items traces
+  known_traces : AreAllTraces image history attempts ledger.journal.notes.items traces
   known_traces = has traces (ap (λ (b : Bool). known b traces)
       (whole_trail ledger.is_whole ledger.journal.is_whole ledger.trail.is_whole ledger.trail.accesses.is_whole whole))
 
   page_aborted : GivenUpReadOneImage (page_of ledger)
   page_aborted = all_mapped ledger.trail.given_up.items (committed_trace ledger.trail.committed)
       (all_sub ReadsOneImageIfAborted known_traces.are_left.among known_traces.are_made.aborted)
+
+  its_aborted : map trace_of ledger.trail.given_up.items ≡ aborted_in known_traces.made
+  its_aborted = sym (aborted_there ledger.trail.given_up.items ledger.trail.committed ledger.trail.aborted
+      ledger.trail.commits) ∙ known_traces.are_left.aborted
+
+  page_read : AllReadPlaces image history (page_of ledger).given_up
+  page_read =
+      let k = known_traces in
+      all_read image history ledger.trail.given_up.items k.aborts
+      (subst (λ (l : List Trace). Paired IsTraceOfListed l k.aborts) (sym its_aborted) k.are_made.listed) k.read
 
   page_whole : IsWholePage attempts (page_of ledger)
   page_whole =
@@ -184,10 +232,7 @@ module _ {W : Type 0} (attempts : ℕ) (ledger : AttemptRecorder W) (whole : is_
       let noted = ledger.noted (whole_ledger ledger.is_whole ledger.journal.is_whole ledger.trail.is_whole
       ledger.trail.accesses.is_whole whole) in
       let firsts = noted_attempts calls (committed_in k.made) noted k.are_made.of_calls in
-      let seconds : map trace_of given ≡ aborted_in k.made =
-      sym (aborted_there given ledger.trail.committed ledger.trail.aborted ledger.trail.commits)
-      ∙ k.are_left.aborted in
-      let all = together (parts k.made) (attempts_of calls) given firsts seconds in
+      let all = together (parts k.made) (attempts_of calls) given firsts its_aborted in
       record {
         made = all.all;
         number = sym (length-map all.all trace_of) ∙ (ap (λ (l : List Trace). length l) all.same ∙ k.number);
@@ -197,29 +242,43 @@ module _ {W : Type 0} (attempts : ℕ) (ledger : AttemptRecorder W) (whole : is_
         ascending = subst (λ (l : List Trace). AreAscending k.first l k.last) (sym all.same) k.are_made.ascending;
       }
 
-module _ {X W : Type 0} (attempts_of_share : X → ℕ) where
+module _ {X W : Type 0} (image : List ℕ) (history : List Record) (attempts_of_share : X → ℕ) where
   pages_aborted : (ledgers : List (AttemptRecorder W)) (xs : List X) → list_all is_whole_ledger ledgers ≡ true →
-      Paired (λ ledger x. LedgerHasAll (attempts_of_share x) ledger) ledgers xs →
+      Paired (λ ledger x. LedgerHasAll image history (attempts_of_share x) ledger) ledgers xs →
       All GivenUpReadOneImage (map page_of ledgers)
   pages_aborted [] [] whole none = All-nil GivenUpReadOneImage
   pages_aborted (ledger ∷ ledgers) (x ∷ xs) whole (both h hs) =
       let rest = list_all is_whole_ledger ledgers in
       All-cons GivenUpReadOneImage (page_of ledger) (map page_of ledgers)
-      (page_aborted (attempts_of_share x) ledger (both_first (is_whole_ledger ledger) rest whole) h)
+      (page_aborted image history (attempts_of_share x) ledger (both_first (is_whole_ledger ledger) rest whole) h)
       (pages_aborted ledgers xs (both_second (is_whole_ledger ledger) rest whole) hs)
   pages_aborted [] (x ∷ xs) whole hs = elim hs [ ]
   pages_aborted (ledger ∷ ledgers) [] whole hs = elim hs [ ]
 
   pages_whole : (ledgers : List (AttemptRecorder W)) (xs : List X) → list_all is_whole_ledger ledgers ≡ true →
-      Paired (λ ledger x. LedgerHasAll (attempts_of_share x) ledger) ledgers xs →
+      Paired (λ ledger x. LedgerHasAll image history (attempts_of_share x) ledger) ledgers xs →
       Paired (λ page x. IsWholePage (attempts_of_share x) page) (map page_of ledgers) xs
   pages_whole [] [] whole none = none
   pages_whole (ledger ∷ ledgers) (x ∷ xs) whole (both h hs) =
       let rest = list_all is_whole_ledger ledgers in
-      both (page_whole (attempts_of_share x) ledger (both_first (is_whole_ledger ledger) rest whole) h)
+      both (page_whole image history (attempts_of_share x) ledger (both_first (is_whole_ledger ledger) rest whole) h)
       (pages_whole ledgers xs (both_second (is_whole_ledger ledger) rest whole) hs)
   pages_whole [] (x ∷ xs) whole hs = elim hs [ ]
   pages_whole (ledger ∷ ledgers) [] whole hs = elim hs [ ]
+
+  pages_read : (ledgers : List (AttemptRecorder W)) (xs : List X) → list_all is_whole_ledger ledgers ≡ true →
+      Paired (λ ledger x. LedgerHasAll image history (attempts_of_share x) ledger) ledgers xs →
+      AbortedReadAtTheirPlaces image history (map page_of ledgers)
+  pages_read [] [] whole none = λ page i. absurd (nothing_in page i)
+  pages_read (ledger ∷ ledgers) (x ∷ xs) whole (both h hs) = λ page i.
+      let rest = list_all is_whole_ledger ledgers in
+      elim (in_cons (page_of ledger) page (map page_of ledgers) i) [
+        | inl e ↦ subst (λ (p : Page). AllReadPlaces image history p.given_up) e
+            (page_read image history (attempts_of_share x) ledger (both_first (is_whole_ledger ledger) rest whole) h)
+        | inr j ↦ pages_read ledgers xs (both_second (is_whole_ledger ledger) rest whole) hs page j
+      ]
+  pages_read [] (x ∷ xs) whole hs = elim hs [ ]
+  pages_read (ledger ∷ ledgers) [] whole hs = elim hs [ ]
 
 -- ---- loads
 
@@ -237,59 +296,96 @@ module _ {W : Type 0} (s : Settings) (opening : AttemptRecorder W) (clients : Li
   made : MadeHistory s.blocks (calls_on (pages_of opening clients))
   made = made_history s (page_of opening) (map page_of clients) has_pages
 
+  -- the history of the calls is that of the load
+  same_image : made.image ≡ has_pages.loaded.image
+  unfolding made has_pages made_history
+  same_image = refl
+
+  same_history : made.history ≡ has_pages.loaded.history
+  unfolding made has_pages made_history
+  same_history = refl
+
   opening_whole : are_whole_ledgers opening clients ≡ true → is_whole_ledger opening ≡ true
   opening_whole whole = both_first (is_whole_ledger opening) (list_all is_whole_ledger clients) whole
 
   others_whole : are_whole_ledgers opening clients ≡ true → list_all is_whole_ledger clients ≡ true
   others_whole whole = both_second (is_whole_ledger opening) (list_all is_whole_ledger clients) whole
 
-  aborted : are_whole_ledgers opening clients ≡ true → (n : ℕ) → LedgerHasAll n opening →
-      Paired (λ ledger x. LedgerHasAll x.attempts ledger) clients has.loaded.shares →
+  abbrev HasAll : ℕ → AttemptRecorder W → Type 0
+  HasAll n ledger = LedgerHasAll has.loaded.image has.loaded.history n ledger
+
+  aborted : are_whole_ledgers opening clients ≡ true → (n : ℕ) → HasAll n opening →
+      Paired (λ ledger x. HasAll x.attempts ledger) clients has.loaded.shares →
       All GivenUpReadOneImage (pages_of opening clients)
   aborted whole n first others = All-cons GivenUpReadOneImage (page_of opening) (map page_of clients)
-      (page_aborted n opening (opening_whole whole) first)
-      (pages_aborted (λ x. x.attempts) clients has.loaded.shares (others_whole whole) others)
+      (page_aborted has.loaded.image has.loaded.history n opening (opening_whole whole) first)
+      (pages_aborted has.loaded.image has.loaded.history (λ x. x.attempts) clients has.loaded.shares
+      (others_whole whole) others)
 
   clients_whole : are_whole_ledgers opening clients ≡ true →
-      Paired (λ ledger x. LedgerHasAll x.attempts ledger) clients has.loaded.shares →
+      Paired (λ ledger x. HasAll x.attempts ledger) clients has.loaded.shares →
       Paired (λ page x. IsWholePage x.attempts page) (map page_of clients) has_pages.loaded.shares
   unfolding has_pages
-  clients_whole whole others = pages_whole (λ x. x.attempts) clients has.loaded.shares (others_whole whole) others
+  clients_whole whole others = pages_whole has.loaded.image has.loaded.history
+      (λ x. x.attempts) clients has.loaded.shares (others_whole whole) others
+
+  -- the aborted attempts read the words of the history
+  read : are_whole_ledgers opening clients ≡ true → (n : ℕ) → HasAll n opening →
+      Paired (λ ledger x. HasAll x.attempts ledger) clients has.loaded.shares →
+      AbortedReadAtTheirPlaces made.image made.history (pages_of opening clients)
+  unfolding made has_pages made_history
+  read whole n first others = λ page i.
+      let image = has.loaded.image in
+      let history = has.loaded.history in
+      elim (in_cons (page_of opening) page (map page_of clients) i) [
+        | inl e ↦ subst (λ (p : Page). AllReadPlaces image history p.given_up) e
+            (page_read image history n opening (opening_whole whole) first)
+        | inr j ↦ pages_read image history (λ x. x.attempts) clients has.loaded.shares
+            (others_whole whole) others page j
+      ]
 
   -- the attempts were written whole
   pub wrote_tried : (held holds : Option (List ℕ)) → are_whole_ledgers opening clients ≡ true → (n : ℕ) →
-      LedgerHasAll n opening → Paired (λ ledger x. LedgerHasAll x.attempts ledger) clients has.loaded.shares →
+      HasAll n opening → Paired (λ ledger x. HasAll x.attempts ledger) clients has.loaded.shares →
       WroteAttempts s.blocks (pages_of opening clients) held holds →
       WroteLoadAttempts s held holds
   wrote_tried held holds whole n first others wrote =
       let few = few_blocks s fits in
       let pages = pages_of opening clients in
+      let judged = judged_by_times s.blocks pages wrote.all few wrote.attempts wrote.fits made
+      (read whole n first others) in
       record {
         opening = page_of opening;
         clients = map page_of clients;
         noted = has_pages;
         written = wrote;
         made = made;
+        same_image = same_image;
+        same_history = same_history;
         history = made_their_history s.blocks pages wrote.all few wrote.attempts made;
-        judged = judged_by_aborts_and_times s.blocks pages wrote.all few wrote.attempts wrote.fits made;
+        read = read whole n first others;
+        legal = judged.0;
+        judged = judged.1;
         aborted = aborted whole n first others;
         setup_attempts = n;
-        of_opening = page_whole n opening (opening_whole whole) first;
+        of_opening = page_whole has.loaded.image has.loaded.history n opening (opening_whole whole) first;
         of_clients = clients_whole whole others;
       }
 
   -- a prefix of them was written
   pub wrote_tried_in_part : (held holds : Option (List ℕ)) → are_whole_ledgers opening clients ≡ true → (n : ℕ) →
-      LedgerHasAll n opening → Paired (λ ledger x. LedgerHasAll x.attempts ledger) clients has.loaded.shares →
+      HasAll n opening → Paired (λ ledger x. HasAll x.attempts ledger) clients has.loaded.shares →
       WroteAttemptsPrefix s.blocks (pages_of opening clients) held holds → WroteLoadAttemptsInPart s held holds
   wrote_tried_in_part held holds whole n first others wrote = record {
     opening = page_of opening;
     clients = map page_of clients;
     noted = has_pages;
     written = wrote;
+    made = made;
+    read = read whole n first others;
     aborted = aborted whole n first others;
     setup_attempts = n;
-    of_opening = page_whole n opening (opening_whole whole) first;
+    of_opening = page_whole has.loaded.image has.loaded.history n opening (opening_whole whole) first;
     of_clients = clients_whole whole others;
   }
 

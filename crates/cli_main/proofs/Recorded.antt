@@ -236,8 +236,19 @@ pages_made records_of (p ∷ pages) (x ∷ xs) all (both k ks) h =
 pages_made records_of [] (x ∷ xs) all ks h = elim ks [ ]
 pages_made records_of (p ∷ pages) [] all ks h = elim ks [ ]
 
--- the completed calls of a load made its history
-pub made_history : (s : Settings) (opening : Page) (clients : List Page) →
+-- the completed calls of a load are those of its history
+pub history_calls : (s : Settings) (opening : Page) (clients : List Page)
+    (h : HasNoted s opening.calls (map (λ page. page.calls) clients)) →
+    AreCallsOf (calls_on (opening ∷ clients)) h.loaded.history
+history_calls s opening clients h =
+    let l = h.loaded in
+    subst (λ (rs : List Record). AreCallsOf (calls_on (opening ∷ clients)) rs) (sym l.opening_first)
+    (first_made opening.calls (calls_on clients) l.opened l.rest (l.opened ++ l.rest) h.of_opening
+    (one_behind l.opened l.rest)
+    (pages_made (λ x. x.records) clients l.shares l.rest h.of_clients l.each_once))
+
+-- they made this history
+unfoldable pub made_history : (s : Settings) (opening : Page) (clients : List Page) →
     HasNoted s opening.calls (map (λ page. page.calls) clients) → MadeHistory s.blocks (calls_on (opening ∷ clients))
 made_history s opening clients h =
     let l = h.loaded in
@@ -245,10 +256,7 @@ made_history s opening clients h =
       image = l.image;
       heap = l.heap;
       history = l.history;
-      made = subst (λ (rs : List Record). AreCallsOf (calls_on (opening ∷ clients)) rs) (sym l.opening_first)
-          (first_made opening.calls (calls_on clients) l.opened l.rest (l.opened ++ l.rest) h.of_opening
-          (one_behind l.opened l.rest)
-          (pages_made (λ x. x.records) clients l.shares l.rest h.of_clients l.each_once));
+      made = history_calls s opening clients h;
       serial = l.serial;
       sorted = l.in_order;
       versioned = l.versioned;

@@ -1,6 +1,6 @@
 -- A load of a seed that was run, or refused.
 use Rattle.std.proofs.Common.{◌≡◌, ◌↔◌, ◌⊎◌, inl, inr, refl, sym, subst, false, vec_len}
-use Rattle.std.specs.Prelude.{Result, Ok, Err, IsErrOf, IsErrAnd, IfErr}
+use Rattle.std.specs.Prelude.{Result, Ok, Err, IsErrOf, IsErrAnd}
 use Rattle.rand_pcg.specs.Lcg.{Lcg}
 use Rattle.load_tasks.specs.declared.settings.Settings.{Settings}
 use Rattle.load_tasks.specs.Streams.{gives, stream_of}

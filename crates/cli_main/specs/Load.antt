@@ -13,7 +13,7 @@ use Rattle.rand_pcg.specs.Lcg.{Lcg}
 use Rattle.load_tasks.specs.declared.settings.Settings.{Settings}
 use Rattle.load_tasks.specs.Setting.{is_settings}
 use Rattle.load_tasks.specs.Streams.{gives, stream_of}
-use Rattle.stm_core.specs.Client.{Record}
+use Rattle.stm_core.specs.Client.{Record, Aborted}
 use Rattle.vac_manager.specs.declared.note.CompletedCall.{CompletedCall}
 use Rattle.vac_manager.specs.declared.note.TracedAttempt.{TracedAttempt}
 use Rattle.vac_manager.specs.Placed.{CommitPosition}
@@ -26,7 +26,10 @@ use Rattle.load_record.specs.Legal.{AreLegal, JudgedByPrecedence}
 use Rattle.judge_calls.specs.CallText.{IsTheirHistory}
 use Rattle.load_record.specs.Pages.{Page, attempts_of, calls_on}
 use Rattle.load_record.specs.Text.{WroteAttempts, WroteAttemptsPrefix, AreTooLong}
-use Rattle.load_record.specs.Loads.{MadeHistory, MadeHistoryFrom, JudgedByAbortsAndTimes}
+use Rattle.load_record.specs.Loads.{MadeHistory, MadeHistoryFrom}
+use Rattle.load_record.specs.InPlace.{AbortedReadAtTheirPlaces, JudgedByTimes}
+use Rattle.load_record.specs.Entries.{attempt_of}
+use Rattle.judge_opacity.specs.Laws.{EachIsLegal}
 use Rattle.load_run.specs.Lists.{Paired}
 use Rattle.load_run.specs.declared.statistics.AttemptStatistics.{AttemptStatistics}
 use Rattle.load_run.specs.declared.slots.Recorders.{Recorders}
@@ -34,7 +37,7 @@ use Rattle.load_run.specs.Keeping.{RecorderContents}
 use Rattle.load_run.specs.Made.{ReadsOneImageIfAborted, AreAscending, AreMade, AreLeft}
 use Rattle.load_run.specs.Several.{Interleaved}
 use Rattle.load_run.specs.declared.load.Load.{Load}
-use Rattle.load_run.specs.Load.{IsLoadFault, LoadedKept, StopsLoad, is_load}
+use Rattle.load_run.specs.Load.{IsLoadFault, HaveRead, LoadedKept, StopsLoad, is_load}
 use Rattle.load_run.specs.Slots.{kept_at}
 use Rattle.load_run.specs.Streams.{LoadedBySeed, KeptBySeed}
 use Rattle.vac_lines.specs.Writing.{AppendsPrefix}
@@ -152,22 +155,26 @@ pub record IsEmpty (kept : RecorderContents) : Type 0 where
   pub traces : (all : List Trace) → kept.traces ≡ Some all → all ≡ []
 
 -- a client made this number of attempts, in turn from the first position to the last one, and these
--- are the traces of them that stayed in its recorder: the aborted ones, each once, and those
--- committed ones that are not in the notes of these calls
-pub record AreAllTraces (attempts : ℕ) (calls : List CompletedCall) (all : List Trace) : Type 0
+-- are the traces of them that stayed in its recorder: the aborted ones, each once, and some of the
+-- committed ones. All words that an aborted attempt has read are in the image of its read version
+-- in this history, which begins with this image
+pub record AreAllTraces (image : List ℕ) (history : List Record) (attempts : ℕ)
+    (calls : List CompletedCall) (all : List Trace) : Type 0
   where
     pub first : CommitPosition
     pub last : CommitPosition
     pub records : List Record
+    pub aborts : List Aborted
     pub made : List Trace
     pub number : length made ≡ attempts
-    pub are_made : AreMade first last calls records made
+    pub are_made : AreMade first last calls records aborts made
     pub are_left : AreLeft made all
+    pub read : HaveRead image history aborts
 
 -- a recorder, if its traces are known, has all of this number of attempts of its client
-abbrev pub HasAllAttempts : ℕ → RecorderContents → Type 0
-HasAllAttempts attempts kept =
-    (all : List Trace) → kept.traces ≡ Some all → AreAllTraces attempts (calls_kept kept) all
+abbrev pub HasAllAttempts : List ℕ → List Record → ℕ → RecorderContents → Type 0
+HasAllAttempts image history attempts kept = (all : List Trace) → kept.traces ≡ Some all →
+    AreAllTraces image history attempts (calls_kept kept) all
 
 -- the load ran to its end, and the recorders have its completed calls, and all attempts of the
 -- setup phase and of each client
@@ -177,14 +184,17 @@ pub record AreNoted {K : Type 0} (notes : K → RecorderContents) (s : Settings)
     pub calls : HasNoted s (calls_kept (notes k.opening))
         (map (λ x. calls_kept (notes x)) k.clients.items)
     pub setup_attempts : ℕ
-    pub opening : HasAllAttempts setup_attempts (notes k.opening)
-    pub clients : Paired (λ x share. HasAllAttempts share.attempts (notes x)) k.clients.items
-        calls.loaded.shares
+    pub opening : HasAllAttempts calls.loaded.image calls.loaded.history setup_attempts
+        (notes k.opening)
+    pub clients : Paired (λ x share. HasAllAttempts calls.loaded.image calls.loaded.history
+        share.attempts (notes x)) k.clients.items calls.loaded.shares
 
--- the page lists all of this number of attempts of a client, each once: `made` has them in the
--- order in which the client made them, those of the completed calls in the order of the calls, and
--- the aborted ones in the order in which the page lists them. From one attempt to the next, the
--- renewal does not decrease, and within a renewal the version does not
+-- the attempts on the page are this many, and they have an order `made` in which those of the
+-- completed calls are in the order of the calls, and the aborted ones in the order in which the
+-- page lists them. From one attempt to the next, the renewal does not decrease, and within a
+-- renewal the version does not
+-- Not said: that the client made them in this order; anything of the positions before the first
+-- attempt and after the last one.
 pub record IsWholePage (attempts : ℕ) (page : Page) : Type 0 where
   pub made : List TracedAttempt
   pub number : length made ≡ attempts
@@ -235,30 +245,34 @@ pub record WroteCallsInPart (s : Settings) (held holds : Option (List ℕ)) : Ty
 -- call its attempt, once, with the commit position, the reads and the writes of the call's record
 -- (`IsNoted` of vac_manager); aborted attempts; and attempts that write the initial words. All are
 -- sorted by commit position. The committed attempts made the history that the calls made, which is
--- serial from the initial words, and the lines are read as these attempts. So the judge calls the
--- text opaque if and only if the aborted attempts read what the committed ones before them leave,
--- the attempts of each client are in turn, and no attempt comes before one that had ended before it
--- began
--- Each attempt listed as aborted read one image: some balanced heap agrees with all its reads.
--- For each client, the listed attempts are as many as some share of a load counts. There is an
--- order of them, the committed ones and the aborted ones each as listed, in which commit positions
--- do not decrease
--- Not said: that each aborted attempt of the load is among them, once; its client, its position and
--- its writes; that nothing was left out because an attempt recorder had no room for it. The counts
--- are tied to no output, so they bound no number of aborted attempts from below; how many the setup
--- phase makes is not said.
+-- serial from the initial words, and the lines are read as these attempts. Each attempt listed as
+-- aborted reads the words of that history at the version at which it is listed, and every listed
+-- attempt is legal. So the judge calls the text opaque if and only if the attempts of each client
+-- are in turn, and no attempt comes before one that had ended before it began
+-- Some balanced heap agrees with all reads of each attempt listed as aborted. For each client, the
+-- listed attempts are as many as some share of a load counts. There is an order of them, the
+-- committed ones and the aborted ones each as listed, in which commit positions do not decrease
+-- Not said: that an attempt listed as aborted was made, at that version and with no other reads;
+-- its client, and its writes.
+-- Not said: that each aborted attempt of the load is among them, once; that nothing was left out
+-- because an attempt recorder had no room for it. The counts are tied to no output, so they bound
+-- no number of aborted attempts from below; how many the setup phase makes is not said.
 -- Not said: that the client made its attempts in this order, and that its lines have it.
--- Not said: that the reads of an aborted attempt are those of the history at its position. Not
--- said: that a stamp is a reading of the clock, and that the stamps of each client are in turn. The
--- program's `opaque` judges these.
+-- Not said: that a stamp is a reading of the clock, and that the stamps of each client are in turn.
+-- The program's `opaque` judges these.
 pub record WroteLoadAttempts (s : Settings) (held holds : Option (List ℕ)) : Type 0 where
   pub opening : Page
   pub clients : List Page
   pub noted : HasNoted s opening.calls (map (λ page. page.calls) clients)
   pub written : WroteAttempts s.blocks (opening ∷ clients) held holds
   pub made : MadeHistory s.blocks (calls_on (opening ∷ clients))
+  -- it is the history of the load
+  pub same_image : made.image ≡ noted.loaded.image
+  pub same_history : made.history ≡ noted.loaded.history
   pub history : MadeHistoryFrom made.image made.history written.all
-  pub judged : JudgedByAbortsAndTimes s.blocks written.all
+  pub read : AbortedReadAtTheirPlaces made.image made.history (opening ∷ clients)
+  pub legal : EachIsLegal (map attempt_of written.all)
+  pub judged : JudgedByTimes s.blocks written.all
   pub aborted : All GivenUpReadOneImage (opening ∷ clients)
   pub setup_attempts : ℕ
   pub of_opening : IsWholePage setup_attempts opening
@@ -270,6 +284,8 @@ pub record WroteLoadAttemptsInPart (s : Settings) (held holds : Option (List ℕ
   pub clients : List Page
   pub noted : HasNoted s opening.calls (map (λ page. page.calls) clients)
   pub written : WroteAttemptsPrefix s.blocks (opening ∷ clients) held holds
+  pub made : MadeHistory s.blocks (calls_on (opening ∷ clients))
+  pub read : AbortedReadAtTheirPlaces made.image made.history (opening ∷ clients)
   pub aborted : All GivenUpReadOneImage (opening ∷ clients)
   pub setup_attempts : ℕ
   pub of_opening : IsWholePage setup_attempts opening

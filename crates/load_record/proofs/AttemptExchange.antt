@@ -28,14 +28,14 @@ use Rattle.load_record.proofs.InPlace.{in_place_legal}
 -- ---- the order of attempts, without their times
 
 -- by the first numbers, then by the second ones
-abbrev below : ℕ → ℕ → ℕ → ℕ → Bool
+abbrev pub below : ℕ → ℕ → ℕ → ℕ → Bool
 below a b x y = ltb a x || (eqb a x && ltb b y)
 
 below_chain : (a b k l x y : ℕ) → below a b k l ≡ false → below k l x y ≡ false → below a b x y ≡ false
 below_chain a b k l x y p q = grind (arith, nat_tests, p, q)
 
 -- the attempt is not to be written before the other one
-abbrev IsLater : TracedAttempt → TracedAttempt → Type 0
+abbrev pub IsLater : TracedAttempt → TracedAttempt → Type 0
 IsLater a b = below a.place.renewal (rank_of a.place) b.place.renewal (rank_of b.place) ≡ false
 
 later_chain : (a b c : TracedAttempt) → IsLater a b → IsLater b c → IsLater a c
@@ -46,17 +46,17 @@ later_chain a b c p q =
 later_of : (a b : TracedAttempt) → is_lt (compare a b) ≡ false → IsLater a b
 later_of a b h = grind (arith, nat_tests, h)
 
-abbrev Ordered : List TracedAttempt → Type 0
+abbrev pub Ordered : List TracedAttempt → Type 0
 Ordered [] = Unit {0}
 Ordered (a ∷ notes) = Each (λ x. IsLater x a) notes × Ordered notes
 
 -- each of the entries is in order with the one before it
-abbrev FollowOn : List AttemptEntry → Type 0
+abbrev pub FollowOn : List AttemptEntry → Type 0
 FollowOn [] = Unit {0}
 FollowOn (e ∷ []) = Unit {0}
 FollowOn (e ∷ f ∷ es) = IsLater f.attempt e.attempt × FollowOn (f ∷ es)
 
-follow_on : (entries : List AttemptEntry) → EntriesAreOrdered entries → FollowOn entries
+pub follow_on : (entries : List AttemptEntry) → EntriesAreOrdered entries → FollowOn entries
 follow_on [] o = tt
 follow_on (e ∷ []) o = tt
 follow_on (e ∷ f ∷ es) o = (
@@ -68,7 +68,7 @@ follow_on (e ∷ f ∷ es) o = (
       next (o (suc k) d (omega arith) (omega (arith, low)))),
 )
 
-abbrev AllLater : TracedAttempt → List AttemptEntry → Type 0
+abbrev pub AllLater : TracedAttempt → List AttemptEntry → Type 0
 AllLater a es = Each (λ (x : AttemptEntry). IsLater x.attempt a) es
 
 all_later : (a : TracedAttempt) (es : List AttemptEntry) (b : TracedAttempt) → IsLater b a → AllLater b es →
@@ -76,18 +76,18 @@ all_later : (a : TracedAttempt) (es : List AttemptEntry) (b : TracedAttempt) →
 all_later a [] b h k = tt
 all_later a (e ∷ es) b h k = (later_chain e.attempt b a k.0 h, all_later a es b h k.1)
 
-abbrev EntriesOrdered : List AttemptEntry → Type 0
+abbrev pub EntriesOrdered : List AttemptEntry → Type 0
 EntriesOrdered [] = Unit {0}
 EntriesOrdered (e ∷ es) = AllLater e.attempt es × EntriesOrdered es
 
-entries_ordered : (entries : List AttemptEntry) → FollowOn entries → EntriesOrdered entries
+pub entries_ordered : (entries : List AttemptEntry) → FollowOn entries → EntriesOrdered entries
 entries_ordered [] h = tt
 entries_ordered (e ∷ []) h = (tt, tt)
 entries_ordered (e ∷ f ∷ es) h =
     let rest = entries_ordered (f ∷ es) h.1 in
     ((h.0, all_later e.attempt es f.attempt h.0 rest.0), rest)
 
-committed_later : (a : TracedAttempt) (es : List AttemptEntry) → AllLater a es →
+pub committed_later : (a : TracedAttempt) (es : List AttemptEntry) → AllLater a es →
     Each (λ x. IsLater x a) (committed_notes es)
 committed_later a [] h = tt
 committed_later a (e ∷ es) h =
@@ -97,7 +97,7 @@ committed_later a (e ∷ es) h =
       | false ↦ committed_later a es h.1
     ]
 
-committed_ordered : (es : List AttemptEntry) → EntriesOrdered es → Ordered (committed_notes es)
+pub committed_ordered : (es : List AttemptEntry) → EntriesOrdered es → Ordered (committed_notes es)
 committed_ordered [] h = tt
 committed_ordered (e ∷ es) h =
     elim e.attempt.commits as (λ b. Ordered (cond b (e.attempt ∷ committed_notes es) (committed_notes es))) [
@@ -105,7 +105,7 @@ committed_ordered (e ∷ es) h =
       | false ↦ committed_ordered es h.1
     ]
 
-ordered_rest : (first made : List TracedAttempt) → Ordered (first ++ made) → Ordered made
+pub ordered_rest : (first made : List TracedAttempt) → Ordered (first ++ made) → Ordered made
 ordered_rest [] made h = h
 ordered_rest (a ∷ first) made h = ordered_rest first made h.1
 
@@ -118,7 +118,7 @@ in_front (y ∷ first) more x i = elim (in_cons y x first i) [
   | inr k ↦ let q = in_front first more x k in (suc q.0, q.1)
 ]
 
-sorted_without : (first more : List Record) (r : Record) → Sorted (first ++ r ∷ more) → Sorted (first ++ more)
+pub sorted_without : (first more : List Record) (r : Record) → Sorted (first ++ r ∷ more) → Sorted (first ++ more)
 sorted_without [] more r o = o.1
 sorted_without (x ∷ first) more r o = (λ y i. o.0 y (in_more first more r y i), sorted_without first more r o.1)
 
@@ -127,7 +127,7 @@ writers_without : (first more : List Record) (r : Record) → HaveOneWriter (fir
 writers_without [] more r o = o.1
 writers_without (x ∷ first) more r o = (λ y i. o.0 y (in_more first more r y i), writers_without first more r o.1)
 
-versioned_without : (first more : List Record) (r : Record) → AreVersioned (first ++ r ∷ more) →
+pub versioned_without : (first more : List Record) (r : Record) → AreVersioned (first ++ r ∷ more) →
     AreVersioned (first ++ more)
 versioned_without first more r v = record {
   writers = writers_without first more r v.writers;
@@ -151,10 +151,10 @@ no_rivals (y ∷ first) more r x o i = elim (in_cons y x first i) [
 -- ---- the attempt of a record
 
 -- some attempt after the first one made the record
-abbrev MadeLater : TracedAttempt → Record → Type 0
+abbrev pub MadeLater : TracedAttempt → Record → Type 0
 MadeLater a x = (b : TracedAttempt) × IsTraceOf (trace_of b) x × IsLater b a
 
-made_later : (a : TracedAttempt) (notes : List TracedAttempt) (records : List Record) (x : Record) →
+pub made_later : (a : TracedAttempt) (notes : List TracedAttempt) (records : List Record) (x : Record) →
     CorrespondTo notes records → Each (λ n. IsLater n a) notes → In x records → MadeLater a x
 made_later a [] records x h k i = absurd (nothing_in x (subst (λ (l : List Record). In x l) h i))
 made_later a (n ∷ notes) records x h k i =
@@ -198,6 +198,15 @@ both_read first more r x v i one =
     (λ w. absurd (no_rivals first more r x v.writers i one.renewal one.version (one.writer ∙ w) w)) (λ w. w) in
     (v.readers x (in_front first (r ∷ more) x i) (one.writer ∙ reads), v.readers r (in_midst first more r) reads)
 
+-- if records stand in front of the record of the first attempt, then they wrote nothing, and neither did that record
+pub quiet : (a : TracedAttempt) (notes : List TracedAttempt) (first : List Record) (r : Record) (more : List Record) →
+    IsTraceOf (trace_of a) r → CorrespondTo notes (first ++ more) → Each (λ n. IsLater n a) notes →
+    Sorted (first ++ r ∷ more) → AreVersioned (first ++ r ∷ more) → (x : Record) → In x first →
+    (x.writes ≡ []) × (r.writes ≡ [])
+quiet a notes first r more is m o sorted v x i =
+    let k = made_later a notes (first ++ more) x m o (in_front first more x i) in
+    both_read first more r x v i (at_one_place r x a k.0 is k.1 (behind first more r x sorted i) k.2)
+
 -- ---- a record comes first
 
 unwritten : (image : List ℕ) (r : Record) → r.writes ≡ [] → laid image r.writes ≡ image
@@ -232,11 +241,7 @@ in_order image (a ∷ notes) records m o sorted v s =
     let sorted' : Sorted (first ++ r ∷ more) = subst (λ (rs : List Record). Sorted rs) m.3 sorted in
     let v' : AreVersioned (first ++ r ∷ more) = subst (λ (rs : List Record). AreVersioned rs) m.3 v in
     let s' : Serial image (first ++ r ∷ more) = subst (λ (rs : List Record). Serial image rs) m.3 s in
-    let quiet : (x : Record) → In x first → (x.writes ≡ []) × (r.writes ≡ []) = λ x i.
-    let k = made_later a notes (first ++ more) x m.5 o.0 (in_front first more x i) in
-    both_read first more r x v' i
-    (at_one_place r x a k.0 m.4 k.1 (behind first more r x sorted' i) k.2) in
-    let q = taken image first r more quiet s' in
+    let q = taken image first r more (quiet a notes first r more m.4 m.5 o.0 sorted' v') s' in
     let rest = in_order (laid image r.writes) notes (first ++ more) m.5 o.1 (sorted_without first more r sorted')
     (versioned_without first more r v') q.1 in
     (r ∷ rest.0, (m.4, rest.1), (q.0, rest.2))

@@ -81,7 +81,7 @@ module _ {X S : Type 0} (Q : List X → S → Type 0)
 
 -- ---- corresponding lists
 
-heads : {X : Type 0} (x y : X) (xs ys : List X) → x ∷ xs ≡ y ∷ ys → (x ≡ y) × (xs ≡ ys)
+pub heads : {X : Type 0} (x y : X) (xs ys : List X) → x ∷ xs ≡ y ∷ ys → (x ≡ y) × (xs ≡ ys)
 heads x y xs ys e = (cc, cc)
 
 -- an element of two lists, one behind the other, stands in the first or in the second
@@ -150,11 +150,11 @@ abbrev pub Same : {X : Type 0} → List X → List X → Type 0
 Same xs ys = Correspond (λ x y. x ≡ y) xs ys
 
 module _ {X : Type 0} where
-  same_under : (x : X) (t t' : List X) → ((s : List X) → Same t s → Same t' s) → (s : List X) →
+  pub same_under : (x : X) (t t' : List X) → ((s : List X) → Same t s → Same t' s) → (s : List X) →
       Same (x ∷ t) s → Same (x ∷ t') s
   same_under = under (λ x y. x ≡ y)
 
-  same_flip : (x y : X) (t : List X) (s : List X) → Same (x ∷ y ∷ t) s → Same (y ∷ x ∷ t) s
+  pub same_flip : (x y : X) (t : List X) (s : List X) → Same (x ∷ y ∷ t) s → Same (y ∷ x ∷ t) s
   same_flip = flip (λ x y. x ≡ y)
 
   same_refl : (xs : List X) → Same xs xs

@@ -1,6 +1,6 @@
 -- The attempts that write the initial words stand first, in their order: no attempt sorts before them, and attempts
 -- that tie with them keep their order.
-use Rattle.std.proofs.Common.{◌≡◌, ◌∙◌, ◌+◌, ◌<◌, ◌≤◌, ◌&&◌, not, refl, sym, ap, arith, ℕ, suc, Bool, true, false, cond}
+use Rattle.std.proofs.Common.{◌≡◌, ◌∙◌, ◌<◌, ◌≤◌, ◌&&◌, not, refl, sym, ap, arith, ℕ, suc, Bool, true, false, cond}
 use Rattle.std.proofs.Common.{List, [], ◌∷◌, ◌++◌, length, get_or, map, append_assoc, subst}
 use Rattle.std.specs.Prelude.{filter}
 use Rattle.std.specs.List.{All}
@@ -88,7 +88,7 @@ compare_total =
     (on_total (λ (a : TracedAttempt). rank_of a.place) nat_cmp_total))
     (on_total (λ (a : TracedAttempt). a.begin) nat_cmp_total)) (on_total (λ (a : TracedAttempt). a.end) nat_cmp_total)
 
-entry_order : IsStrictWeakOrder entry_before
+pub entry_order : IsStrictWeakOrder entry_before
 entry_order = ranks_by compare_total (λ (e : AttemptEntry). e.attempt)
 
 -- no attempt sorts before one that was committed before all others

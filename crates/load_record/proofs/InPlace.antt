@@ -95,7 +95,7 @@ in_place_right image first before e writes right p =
     ∙ reads_right (words_after (words_after zeros opening) made) (image_left image p.made) empty empty own stands
     p.reads.right p.reads.agrees
 
-aborted_legal : (image : List ℕ) (first : List TracedAttempt) (all : List AttemptEntry) →
+pub aborted_legal : (image : List ℕ) (first : List TracedAttempt) (all : List AttemptEntry) →
     AreMadeSerially image first all → AbortedReadInPlace image first all → AbortedAreLegal (map attempt_of all)
 aborted_legal image first all h each before after attempt e c =
     let s = split_entries all before after attempt e in

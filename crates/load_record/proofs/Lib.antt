@@ -27,4 +27,6 @@ pub mod Heap
 pub mod Loads
 pub mod Corresponding
 pub mod Made
+pub mod AtPlaces
+pub mod InTurn
 pub mod LoadWorked

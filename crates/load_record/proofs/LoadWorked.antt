@@ -2,11 +2,12 @@
 use Rattle.std.proofs.Common.{◌≡◌, ◌≢◌, ◌≤◌, ◌<◌, ◌+◌, ◌*◌, inl, inr, ℕ, zero, suc, true, false, List, [], ◌∷◌, ◌++◌}
 use Rattle.std.proofs.Common.{Some, None, length, map, refl, sym, ap, subst, ◌∙◌, arith, append-nil, slice_index}
 use Rattle.std.specs.Prelude.{replicate, All}
+use Rattle.std.specs.List.{AllPairs}
 use Rattle.std.proofs.lemmas.List.Elements.{All-nil, All-cons}
 use Rattle.std.specs.FinMap.{get, insert, empty, entries, get-empty, len-empty, len-entries}
 use Rattle.std.specs.Global.{Vec, Box}
 use Rattle.std.specs.Ordering.{nat_cmp}
-use Rattle.tx_memory.specs.Image.{Has, Agrees, laid}
+use Rattle.tx_memory.specs.Image.{In, Has, Agrees, laid}
 use Rattle.tx_memory.specs.View.{Words}
 use Rattle.tx_memory.specs.Pairs.{map_of}
 use Rattle.tx_memory.specs.Seen.{same_or, get_here, get_other}
@@ -24,6 +25,7 @@ use Rattle.judge_object.specs.Laws.{IsAt, TakeTurns, KeepPrecedence}
 use Rattle.vac_manager.specs.Keeping.{IsNoted}
 use Rattle.vac_manager.specs.Legal.{AreVersioned}
 use Rattle.vac_manager.specs.Tracing.{trace_of, IsTraceOf}
+use Rattle.vac_manager.specs.declared.note.CompletedCall.{CompletedCall}
 use Rattle.vac_manager.specs.declared.note.TracedAttempt.{TracedAttempt}
 use Rattle.load_record.specs.Lines.{AttemptEntry}
 use Rattle.load_record.specs.AttemptOrder.{EntriesAreOrdered}
@@ -31,14 +33,18 @@ use Rattle.load_record.specs.Entries.{attempt_of, span_of_entry, Fits, AllFit, F
 use Rattle.load_record.specs.Laying.{Lays, IsLaidFirst}
 use Rattle.load_record.specs.Loads.{MadeHistory, AbortsAndTimesAreRight}
 use Rattle.load_record.specs.Ordered.{AreOfHistory}
-use Rattle.load_record.specs.Pages.{calls_on}
+use Rattle.load_record.specs.Pages.{Page, attempts_of, calls_on}
 use Rattle.load_record.specs.Records.{ReadsImage, image_left, ReadsInPlace, AbortedReadInPlace}
 use Rattle.load_record.specs.Text.{AreAttempts}
+use Rattle.load_record.specs.InPlace.{ReadsAtItsPlace, AbortedReadAtTheirPlaces}
+use Rattle.load_record.specs.InTurn.{is_before, MadeInTurn, EachMadeInTurn}
 use Rattle.load_record.specs.Examples.{worked_first}
 use Rattle.load_record.specs.LoadExample.{loaded_image, loaded_committed, loaded_aborted, loaded_call, loaded_pages}
 use Rattle.load_record.specs.LoadExample.{loaded_entries, AreLoaded, WorkedLoad}
 use Rattle.load_record.proofs.AttemptExchange.{made_serially}
+use Rattle.load_record.proofs.AtPlaces.{judged_by_times}
 use Rattle.load_record.proofs.InPlace.{in_place_legal}
+use Rattle.load_record.proofs.InTurn.{judged_by_precedence}
 use Rattle.load_record.proofs.Lengths.{few_fit}
 use Rattle.load_record.proofs.Made.{judged_by_aborts_and_times}
 use Rattle.load_record.proofs.Serial.{judged_apart}
@@ -217,12 +223,19 @@ module _ (x y z : Vec Access) (task : Task) (reply : Reply) (first : x.items ≡
     | inr other ↦ absurd (none_some v (sym (get_other empty 8 16 a other ∙ none_at a) ∙ e))
   ]
 
-  image_read : ReadsImage (image_left loaded_image (loaded_committed y ∷ [])) (loaded_aborted z)
-  image_read = record {
-    agrees = λ a v e. subst (λ (image : List ℕ). Has image a v) (sym left)
-        (seen a v (sym (ap (λ (w : Words). get w a) (ap (reads_behind empty empty) aborts ∙ later_are)) ∙ e));
+  reads_first : ReadsImage loaded_image (loaded_aborted z)
+  reads_first = record {
+    agrees = λ a v e. seen a v (sym (ap (λ (w : Words). get w a) (ap (reads_behind empty empty) aborts ∙ later_are))
+        ∙ e);
     right = ap (are_right empty empty) aborts ∙ later_right;
   }
+
+  image_read : ReadsImage (image_left loaded_image (loaded_committed y ∷ [])) (loaded_aborted z)
+  image_read = subst (λ (image : List ℕ). ReadsImage image (loaded_aborted z)) (sym left) reads_first
+
+  -- the record of the call wrote nothing
+  read_at_place : ReadsAtItsPlace loaded_image (made ∷ []) (loaded_aborted z)
+  read_at_place = record { reader = refl; reads = reads_first }
 
   abbrev entry_first : AttemptEntry
   entry_first = record { client = 0; attempt = worked_first x }
@@ -316,6 +329,71 @@ module _ (x y z : Vec Access) (task : Task) (reply : Reply) (first : x.items ≡
     precedence = precedence;
   }
 
+  -- ---- the attempts of client 1 in their order
+
+  two_pairs : (R : TracedAttempt → TracedAttempt → Type 0) (a b : TracedAttempt) → R a b → AllPairs R (a ∷ b ∷ [])
+  two_pairs R a b h zero (suc zero) d less low = h
+  two_pairs R a b h zero zero d less low = absurd (omega (arith, less))
+  two_pairs R a b h (suc i) zero d less low = absurd (omega (arith, less))
+  two_pairs R a b h (suc i) (suc zero) d less low = absurd (omega (arith, less))
+  two_pairs R a b h i (suc (suc j)) d less low = absurd (omega (arith, low))
+
+  abbrev second_page : CompletedCall → Page
+  second_page call = record { calls = call ∷ []; given_up = loaded_aborted z ∷ [] }
+
+  second_in_turn : (call : CompletedCall) → attempts_of (call ∷ []) ≡ loaded_committed y ∷ [] →
+      MadeInTurn (second_page call)
+  second_in_turn call is = record {
+    attempts = loaded_committed y ∷ loaded_aborted z ∷ [];
+    own = record { committed = sym is; aborted = refl };
+    times = All-cons (λ (a : TracedAttempt). a.begin ≤ a.end) (loaded_committed y) (loaded_aborted z ∷ []) (omega arith)
+        (All-cons (λ (a : TracedAttempt). a.begin ≤ a.end) (loaded_aborted z) [] (omega arith)
+        (All-nil (λ (a : TracedAttempt). a.begin ≤ a.end)));
+    turns = two_pairs (λ a b. a.end ≤ b.begin) (loaded_committed y) (loaded_aborted z) (omega arith);
+    positions = two_pairs (λ a b. is_before b.place a.place ≡ false) (loaded_committed y) (loaded_aborted z) refl;
+  }
+
+  abbrev first_page : Page
+  first_page = record { calls = []; given_up = [] }
+
+  first_in_turn : MadeInTurn first_page
+  first_in_turn = record {
+    attempts = [];
+    own = record { committed = refl; aborted = refl };
+    times = All-nil (λ (a : TracedAttempt). a.begin ≤ a.end);
+    turns = λ i j d less low. absurd (omega (arith, low));
+    positions = λ i j d less low. absurd (omega (arith, low));
+  }
+
+  each_in_turn : (call : CompletedCall) → attempts_of (call ∷ []) ≡ loaded_committed y ∷ [] →
+      EachMadeInTurn (loaded_pages call (loaded_aborted z))
+  each_in_turn call is page i = elim (in_cons first_page page (second_page call ∷ []) i) [
+    | inl e ↦ subst (λ (p : Page). MadeInTurn p) e first_in_turn
+    | inr k ↦ elim (in_cons (second_page call) page [] k) [
+      | inl e ↦ subst (λ (p : Page). MadeInTurn p) e (second_in_turn call is)
+      | inr j ↦ absurd (nothing_in page j)
+    ]
+  ]
+
+  abbrev AllRead : Page → Type 0
+  AllRead page = (a : TracedAttempt) → In a page.given_up → ReadsAtItsPlace loaded_image (made ∷ []) a
+
+  second_read : (call : CompletedCall) → AllRead (second_page call)
+  second_read call a i = elim (in_cons (loaded_aborted z) a [] i) [
+    | inl e ↦ subst (λ (b : TracedAttempt). ReadsAtItsPlace loaded_image (made ∷ []) b) e read_at_place
+    | inr k ↦ absurd (nothing_in a k)
+  ]
+
+  each_read : (call : CompletedCall) →
+      AbortedReadAtTheirPlaces loaded_image (made ∷ []) (loaded_pages call (loaded_aborted z))
+  each_read call page i = elim (in_cons first_page page (second_page call ∷ []) i) [
+    | inl e ↦ subst (λ (p : Page). AllRead p) e (λ a j. absurd (nothing_in a j))
+    | inr k ↦ elim (in_cons (second_page call) page [] k) [
+      | inl e ↦ subst (λ (p : Page). AllRead p) e (second_read call)
+      | inr j ↦ absurd (nothing_in page j)
+    ]
+  ]
+
   -- ---- the lines
 
   one_word : (access : Access) (l : List Access) → l ≡ access ∷ [] → FitsAccess (heap_words 1) access →
@@ -399,14 +477,32 @@ module _ (x y z : Vec Access) (task : Task) (reply : Reply) (first : x.items ≡
       first = refl;
     }
 
-    loaded : AreLoaded (worked_first x) attempt.value (loaded_aborted z) (loaded_call task reply attempt)
+    abbrev call_is : CompletedCall
+    call_is = loaded_call task reply attempt
+
+    abbrev pages_are : List Page
+    pages_are = loaded_pages call_is (loaded_aborted z)
+
+    all_fit : AllFit (heap_words 1) (its_entries attempt.value)
+    all_fit = subst (λ (a : TracedAttempt). AllFit (heap_words 1) (its_entries a)) (sym same) fits
+
+    in_turn : EachMadeInTurn pages_are
+    in_turn = each_in_turn call_is (ap (λ (a : TracedAttempt). a ∷ []) same)
+
+    loaded : AreLoaded (worked_first x) attempt.value (loaded_aborted z) call_is
+    unfolding history_made
     loaded = record {
       attempts = attempts;
       made = history_made;
       right = subst (λ (a : TracedAttempt). AbortsAndTimesAreRight (its_entries a)) (sym same) right;
-      judged = judged_by_aborts_and_times 1 (loaded_pages (loaded_call task reply attempt) (loaded_aborted z))
-          (its_entries attempt.value) (omega arith) attempts
-          (subst (λ (a : TracedAttempt). AllFit (heap_words 1) (its_entries a)) (sym same) fits) history_made;
+      judged = judged_by_aborts_and_times 1 pages_are (its_entries attempt.value) (omega arith) attempts all_fit
+          history_made;
+      read = each_read call_is;
+      by_times = (judged_by_times 1 pages_are (its_entries attempt.value) (omega arith) attempts all_fit history_made
+          (each_read call_is)).1;
+      in_turn = in_turn;
+      by_precedence = judged_by_precedence 1 pages_are (its_entries attempt.value) (omega arith) attempts all_fit
+          history_made (each_read call_is) in_turn;
     }
 
 pub worked_load : WorkedLoad

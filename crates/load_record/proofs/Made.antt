@@ -14,9 +14,10 @@ use Rattle.load_record.specs.Pages.{Page, noted_attempt, attempts_of, is_told, a
 use Rattle.load_record.specs.Pages.{attempt_entries_of, attempt_entries_from}
 use Rattle.load_record.specs.Entries.{attempt_of}
 use Rattle.load_record.specs.Records.{committed_notes}
-use Rattle.load_record.specs.Ordered.{CorrespondTo}
+use Rattle.load_record.specs.Ordered.{CorrespondTo, AreOfHistory}
 use Rattle.load_record.specs.Legal.{AreCallsOf}
-use Rattle.load_record.specs.Loads.{LoadsMakeTheirHistory, LoadsAreJudgedByAbortsAndTimes}
+use Rattle.load_record.specs.Loads.{MadeHistory, LoadsMakeTheirHistory, LoadsAreJudgedByAbortsAndTimes}
+use Rattle.load_record.specs.Text.{AreAttempts}
 use Rattle.load_record.proofs.Corresponding.{Correspond, flip, Same, same_of, cancel_all, same_keeps}
 use Rattle.load_record.proofs.Heap.{one_heap}
 use Rattle.load_record.proofs.Loads.{committed_first}
@@ -129,27 +130,42 @@ pages_made client (page ∷ pages) history told h =
 
 -- ---- the load
 
+module _ (blocks : ℕ) (pages : List Page) (all : List AttemptEntry) (are : AreAttempts blocks pages all) where
+  -- the entries behind the first ones are those of the pages
+  pub rest_same : Same are.rest (attempt_entries_from 0 pages)
+  rest_same =
+      let laid = attempt_entries_of 0 are.laid in
+      let clients = attempt_entries_from 0 pages in
+      let same : Same (laid ++ are.rest) (laid ++ clients) =
+      subst (λ (l : List AttemptEntry). Same l (laid ++ clients)) are.first
+      (same_of (laid ++ clients) all are.each_once) in
+      cancel_all laid are.rest clients same
+
+  module _ (made : MadeHistory blocks (calls_on pages)) where
+    -- the committed ones among them made the history
+    pub rest_made : CorrespondTo (committed_notes are.rest) made.history
+    rest_made =
+        same_keeps Made made_under made_flip are.rest (attempt_entries_from 0 pages) rest_same made.history
+        (pages_made 0 pages made.history are.told made.made)
+
+    pub of_history : AreOfHistory made.image made.history are.laid all
+    of_history =
+        let image = one_heap made.image are.lays.words blocks made.heap are.lays.heap in
+        record {
+          made = committed_notes are.rest;
+          committed = ap committed_notes are.first ∙ committed_first are.laid are.rest are.lays.before_all;
+          writes = subst (λ (i : List ℕ). done_by are.laid ≡ writes_from 0 i) (sym image) are.lays.writes;
+          traced = rest_made;
+          serial = made.serial;
+          sorted = made.sorted;
+          versioned = made.versioned;
+        }
+
 pub made_their_history : LoadsMakeTheirHistory
-made_their_history = λ blocks pages all few are made.
-    let laid = attempt_entries_of 0 are.laid in
-    let clients = attempt_entries_from 0 pages in
-    let same : Same (laid ++ are.rest) (laid ++ clients) =
-    subst (λ (l : List AttemptEntry). Same l (laid ++ clients)) are.first
-    (same_of (laid ++ clients) all are.each_once) in
-    let image = one_heap made.image are.lays.words blocks made.heap are.lays.heap in
-    record {
-      first = are.laid;
-      of_history = record {
-        made = committed_notes are.rest;
-        committed = ap committed_notes are.first ∙ committed_first are.laid are.rest are.lays.before_all;
-        writes = subst (λ (i : List ℕ). done_by are.laid ≡ writes_from 0 i) (sym image) are.lays.writes;
-        traced = same_keeps Made made_under made_flip are.rest clients (cancel_all laid are.rest clients same)
-            made.history (pages_made 0 pages made.history are.told made.made);
-        serial = made.serial;
-        sorted = made.sorted;
-        versioned = made.versioned;
-      };
-    }
+made_their_history = λ blocks pages all few are made. record {
+  first = are.laid;
+  of_history = of_history blocks pages all are made;
+}
 
 pub judged_by_aborts_and_times : LoadsAreJudgedByAbortsAndTimes
 judged_by_aborts_and_times = λ blocks pages all few are fit made.

@@ -22,4 +22,6 @@ pub mod Records
 pub mod Ordered
 pub mod Loads
 pub mod Examples
+pub mod InPlace
+pub mod InTurn
 pub mod LoadExample

@@ -5,6 +5,7 @@ use Rattle.std.specs.Prelude.{◌≡◌, ℕ, true, false, List, [], ◌∷◌, 
 use Rattle.std.specs.Global.{Vec, Box}
 use Rattle.tx_memory.specs.declared.access.Access.{Access}
 use Rattle.tx_memory.specs.declared.access.Access.TheVariants.{Read, Write}
+use Rattle.tx_alloc.specs.Pool.{heap_words}
 use Rattle.vac_model.specs.declared.tasks.Task.{Task}
 use Rattle.vac_model.specs.declared.replies.Reply.{Reply}
 use Rattle.vac_manager.specs.declared.note.CompletedCall.{CompletedCall}
@@ -13,7 +14,10 @@ use Rattle.load_record.specs.Lines.{AttemptEntry}
 use Rattle.load_record.specs.Pages.{Page, calls_on}
 use Rattle.load_record.specs.Text.{AreAttempts}
 use Rattle.load_record.specs.Examples.{worked_first}
+use Rattle.load_record.specs.Judged.{JudgedByPrecedence}
 use Rattle.load_record.specs.Loads.{MadeHistory, AbortsAndTimesAreRight, JudgedByAbortsAndTimes}
+use Rattle.load_record.specs.InPlace.{AbortedReadAtTheirPlaces, JudgedByTimes}
+use Rattle.load_record.specs.InTurn.{EachMadeInTurn}
 
 -- the words at the beginning
 abbrev pub loaded_image : List ℕ
@@ -64,12 +68,18 @@ loaded_entries first committed aborted =
     ∷ record { client = 1; attempt = aborted } ∷ []
 
 -- the attempts are those of a load on one block, whose calls made a history; the aborted attempts
--- and the times are right, so that the judge calls the text opaque
+-- and the times are right, so that the judge calls the text opaque. The aborted attempt reads the
+-- image of its version, and each client made its attempts one after the other, so that the text is
+-- judged by its times, and by precedence alone
 pub record AreLoaded (first committed aborted : TracedAttempt) (call : CompletedCall) : Type 0 where
   pub attempts : AreAttempts 1 (loaded_pages call aborted) (loaded_entries first committed aborted)
   pub made : MadeHistory 1 (calls_on (loaded_pages call aborted))
   pub right : AbortsAndTimesAreRight (loaded_entries first committed aborted)
   pub judged : JudgedByAbortsAndTimes 1 (loaded_entries first committed aborted)
+  pub read : AbortedReadAtTheirPlaces made.image made.history (loaded_pages call aborted)
+  pub by_times : JudgedByTimes 1 (loaded_entries first committed aborted)
+  pub in_turn : EachMadeInTurn (loaded_pages call aborted)
+  pub by_precedence : JudgedByPrecedence (heap_words 1) (loaded_entries first committed aborted)
 
 -- the first attempt writes 16 to word 8; the one that commits reads word 1; the aborted one reads
 -- word 8

@@ -27,7 +27,8 @@ pub use merging::rank;
 pub use opacity_laws::{
     a_worked_load_meets_the_conditions, attempt_texts_are_read, attempts_in_place_are_legal,
     attempts_of_a_load_begin_with_its_heap, attempts_of_a_load_make_its_history, few_accesses_fit,
-    histories_are_opaque_up_to_precedence, loads_are_judged_by_their_aborts_and_times,
+    histories_are_opaque_up_to_precedence, loads_are_judged_by_precedence,
+    loads_are_judged_by_their_aborts_and_times, loads_are_judged_by_their_times,
     ordered_attempts_are_made_serially, outcomes_are_judged_apart, serial_attempts_are_legal,
     texts_are_judged_by_their_entries, texts_are_opaque_up_to_precedence,
     worked_attempts_meet_the_conditions,

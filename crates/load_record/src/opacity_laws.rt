@@ -9,6 +9,8 @@ ghost use Rattle.load_record.specs.Records.{OutcomesAreJudgedApart, SerialAttemp
 ghost use Rattle.load_record.specs.Records.{AttemptsInPlaceAreLegal};
 ghost use Rattle.load_record.specs.Loads.{LoadsBeginWithTheirHeap, LoadsMakeTheirHistory};
 ghost use Rattle.load_record.specs.Loads.{LoadsAreJudgedByAbortsAndTimes};
+ghost use Rattle.load_record.specs.InPlace.{LoadsAreJudgedByTimes};
+ghost use Rattle.load_record.specs.InTurn.{LoadsAreJudgedByPrecedence};
 ghost use Rattle.load_record.specs.Ordered.{OrderedAttemptsAreMadeSerially};
 ghost use Rattle.load_record.specs.Ordered.{HistoriesAreOpaqueUpToPrecedence};
 
@@ -58,7 +60,7 @@ pub fn serial_attempts_are_legal()
 /// `serial_attempts_are_legal` has it, and each aborted attempt reads the image that the committed
 /// attempts before it leave, and its own writes.
 ///
-/// Not said: that the aborted attempts of a load do so.
+/// Not said: that the aborted attempts of a load do so (`loads_are_judged_by_their_times` says it).
 pub fn attempts_in_place_are_legal()
     ensures { AttemptsInPlaceAreLegal }
 {}
@@ -75,8 +77,7 @@ pub fn ordered_attempts_are_made_serially()
 /// committed attempts write an image and make the records of a history, the aborted ones read the
 /// image that the committed ones before them leave, and the attempts of each client are in turn.
 ///
-/// Not said: that the aborted attempts of a load read this image, or that the attempts of each of
-/// its clients are in turn.
+/// Not said: that the attempts of each of a load's clients are in turn.
 pub fn histories_are_opaque_up_to_precedence()
     ensures { HistoriesAreOpaqueUpToPrecedence }
 {}
@@ -114,6 +115,28 @@ pub fn loads_are_judged_by_their_aborts_and_times()
     ensures { LoadsAreJudgedByAbortsAndTimes }
 {}
 
+/// States that all attempts of a load are legal, and that their text, at as many words as the heap
+/// has, is opaque for the judge if and only if the attempts of each client are in turn, and no
+/// attempt comes before an attempt that had ended before it began: if the attempts fit, the
+/// completed calls of the load made a history, and each aborted attempt reads the image of its
+/// version in this history.
+///
+/// Not said: that a load's times are right.
+pub fn loads_are_judged_by_their_times()
+    ensures { LoadsAreJudgedByTimes }
+{}
+
+/// States that the text of a load's attempts, at as many words as its heap has, is opaque for the
+/// judge if and only if no attempt comes before an attempt that had ended before it began: if the
+/// conditions of `loads_are_judged_by_their_times` hold, and each client made its attempts one
+/// after the other, at commit positions that never go back.
+///
+/// Not said: that the order keeps precedence. The clock readings of two clients do not show which
+/// of them read first.
+pub fn loads_are_judged_by_precedence()
+    ensures { LoadsAreJudgedByPrecedence }
+{}
+
 /// States that three attempts, worked out by hand, meet the conditions of
 /// `histories_are_opaque_up_to_precedence` which speak of the records, of the aborted attempts and
 /// of the times.
@@ -122,8 +145,9 @@ pub fn worked_attempts_meet_the_conditions()
 {}
 
 /// States that a small load, worked out by hand, meets the conditions of
-/// `loads_are_judged_by_their_aborts_and_times`, and that its aborted attempts and times are right:
-/// the words of one block, one completed call and one aborted attempt. So its text is opaque.
+/// `loads_are_judged_by_their_aborts_and_times`, `loads_are_judged_by_their_times` and
+/// `loads_are_judged_by_precedence`, and that its aborted attempts and times are right: the words
+/// of one block, one completed call and one aborted attempt. So its text is opaque.
 pub fn a_worked_load_meets_the_conditions()
     ensures { WorkedLoad }
 {}

@@ -136,8 +136,8 @@ asked_answered region t tries end p e c c' a b k is h told same kept taken =
       clock = λ alone. clocked_answered region.last p.reply c.value c'.value (called.call.next alone);
       took = took_answered tries c.value.attempt.number c'.value.attempt.number p called.statistics.conflicts e
           called.call.attempts called.statistics.statistics called.statistics.begun;
-      kept = kept_one region t p e.attempts c.value c'.value a b k called.place called.statistics.begun attempts same
-          kept taken;
+      kept = kept_one region t p e.attempts c.value c'.value a b k called.place called.statistics.begun
+          called.call.aborted attempts same kept taken;
       ready = λ alone. record { whole = called.call.whole alone; legal = called.call.legal };
       refused = λ alone. tt;
     }
@@ -190,8 +190,8 @@ asked_refused region t tries end f e c c' a b k range some is h told same kept =
       clock = λ alone. clocked_refused region.last f c.value c'.value (called.call.next alone);
       took = took_refused tries c.value.attempt.number c'.value.attempt.number f called.statistics.conflicts e known
           called.call.attempts called.statistics.statistics called.statistics.begun;
-      kept = kept_refused region f e.attempts c.value c'.value a b k called.place called.statistics.begun attempts same
-          kept;
+      kept = kept_refused region f e.attempts c.value c'.value a b k called.place called.statistics.begun
+          called.call.aborted attempts same kept;
       ready = λ alone. tt;
       refused = λ alone. opening_fault region t tries f c.value c'.value known (called.call.next alone)
           called.call.fault;

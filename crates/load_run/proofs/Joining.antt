@@ -1,9 +1,9 @@
 -- Rounds, one after the other.
-use Rattle.std.proofs.Common.{◌≡◌, ◌∙◌, ℕ, suc, ◌+◌, ◌*◌, ◌≤◌, ◌<◌, inl, List, [], ◌∷◌, ◌++◌, length}
+use Rattle.std.proofs.Common.{◌≡◌, ◌∙◌, ℕ, suc, ◌+◌, ◌*◌, ◌≤◌, ◌<◌, inl, inr, List, [], ◌∷◌, ◌++◌, length}
 use Rattle.std.proofs.Common.{length-append, append_assoc, refl, sym, ap, subst, arith}
 use Rattle.std.proofs.Math.Nat.{add-mul, mul-le-mul}
 use Rattle.tx_memory.specs.Image.{In}
-use Rattle.stm_core.specs.Client.{Record}
+use Rattle.stm_core.specs.Client.{Record, Aborted, all_aborted}
 use Rattle.stm_region.specs.Shown.{RegionShown}
 use Rattle.stm_object.specs.Places.{reader_at}
 use Rattle.vac_manager.specs.Called.{ClientShown, CallerShown}
@@ -14,7 +14,8 @@ use Rattle.load_run.specs.declared.rounds.Round.{Round}
 use Rattle.load_run.specs.Attempted.{TaskCountsShown}
 use Rattle.load_run.specs.declared.outcomes.Outcomes.{Outcomes}
 use Rattle.load_run.specs.Looping.{total, least_attempts, AreKnown, plus}
-use Rattle.load_run.specs.Several.{sum_of, added_up}
+use Rattle.load_run.specs.Several.{Within, AllWithin, sum_of, added_up}
+use Rattle.stm_core.proofs.Eras.{in_append}
 use Rattle.load_run.specs.Lists.{Paired, none, both}
 use Rattle.load_run.specs.Slots.{SlotShown}
 use Rattle.load_run.specs.Load.{InterleavedAll, Share, drawn_share, HasShare, HasKeptShare, RanAll, RoundHasRun}
@@ -38,6 +39,7 @@ abbrev joined_share : {D : Type 0} → Share D → Share D → Share D
 joined_share x y = record {
   records = x.records ++ y.records;
   attempts = x.attempts + y.attempts;
+  aborts = x.aborts ++ y.aborts;
   outcomes = plus x.outcomes y.outcomes;
   left = y.left;
 }
@@ -68,9 +70,9 @@ kept_share_both leads s n m from middle next to less state x y h k = record {
   low = h.low;
   high = k.high;
   kept = are_kept_both (reader_at from h.low) (reader_at middle h.high) (reader_at to k.high) x.attempts y.attempts
-      x.records y.records state.kept x.left.kept y.left.kept h.kept
-      (kept_from (reader_at middle h.high) (reader_at next k.low) (reader_at to k.high) y.attempts y.records x.left.kept
-      y.left.kept (inl less) k.kept);
+      x.records y.records x.aborts y.aborts state.kept x.left.kept y.left.kept h.kept
+      (kept_from (reader_at middle h.high) (reader_at next k.low) (reader_at to k.high) y.attempts y.records y.aborts
+      x.left.kept y.left.kept (inl less) k.kept);
 }
 
 all_made : (a b x y z : ℕ) → a ≡ x → b ≡ y → z ≡ x + y → a + b ≡ z
@@ -119,6 +121,19 @@ module _ {D P : Type 0} (leads : D → ℕ → D → Type 0) (s : Settings) (sho
   zip_once [] (y ∷ ys) k l hs a b = elim hs [ ]
   zip_once (x ∷ xs) [] k l hs a b = elim hs [ ]
 
+  -- the aborted attempts of both are among the later ones
+  zip_within : (xs ys : List (Share (SlotShown D))) (a b : List Aborted) →
+      Paired (λ x y. HasKeptShare leads s m next to x.left y) xs ys → Within a b →
+      AllWithin (λ (x : Share (SlotShown D)). x.aborts) xs a → AllWithin (λ (x : Share (SlotShown D)). x.aborts) ys b →
+      AllWithin (λ (x : Share (SlotShown D)). x.aborts) (zipped xs ys) b
+  zip_within [] [] a b none k p q = tt
+  zip_within (x ∷ xs) (y ∷ ys) a b (both h hs) k p q = (
+    λ r i. elim (in_append x.aborts y.aborts r i) [ inl j ↦ k r (p.0 r j) | inr j ↦ q.0 r j ],
+    zip_within xs ys a b hs k p.1 q.1,
+  )
+  zip_within [] (y ∷ ys) a b hs k p q = elim hs [ ]
+  zip_within (x ∷ xs) [] a b hs k p q = elim hs [ ]
+
   -- sums over shares of what adds up
   zip_sum : (f : Share (SlotShown D) → ℕ) → ((x y : Share (SlotShown D)) → f (joined_share x y) ≡ f x + f y) →
       (xs ys : List (Share (SlotShown D))) → Paired (λ x y. HasKeptShare leads s m next to x.left y) xs ys →
@@ -139,10 +154,11 @@ module _ {D P : Type 0} (leads : D → ℕ → D → Type 0) (s : Settings) (sho
   }
 
   pub ran_both : (before between-records after : List Record) (pairs between left : List P) (t u : Outcomes)
-      (a b : ℕ) → RanAll leads s shown_of n from middle before pairs between-records between t a →
-      RanAll leads s shown_of m next to between-records between after left u b →
-      RanAll leads s shown_of (n + m) from to before pairs after left (plus t u) (a + b)
-  ran_both before between-records after pairs between left t u a b h k =
+      (a b : ℕ) (earlier mid later : List Aborted) →
+      RanAll leads s shown_of n from middle before pairs between-records between t a earlier mid →
+      RanAll leads s shown_of m next to between-records between after left u b mid later →
+      RanAll leads s shown_of (n + m) from to before pairs after left (plus t u) (a + b) earlier later
+  ran_both before between-records after pairs between left t u a b earlier mid later h k =
       let goes : Paired (λ x y. HasKeptShare leads s m next to x.left y) h.shares k.shares =
       paired_through (λ (x : Share (SlotShown D)) p. shown_of p ≡ x.left)
       (λ p (y : Share (SlotShown D)). HasKeptShare leads s m next to (shown_of p) y)
@@ -162,6 +178,8 @@ module _ {D P : Type 0} (leads : D → ℕ → D → Type 0) (s : Settings) (sho
         made = all_made a b (sum_of (λ (x : Share (SlotShown D)). x.attempts) h.shares)
             (sum_of (λ (x : Share (SlotShown D)). x.attempts) k.shares) _ h.made k.made
             (zip_sum (λ (x : Share (SlotShown D)). x.attempts) (λ x y. refl) h.shares k.shares goes);
+        stays = λ r i. k.stays r (h.stays r i);
+        listed = zip_within h.shares k.shares mid later goes k.stays h.listed k.listed;
         alone = λ one. (
             let same : length between ≡ length pairs = paired_length _ h.shares between h.left_are ∙
             paired_length _ pairs h.shares h.each in
@@ -181,31 +199,38 @@ pub ran_more : {W D : Type 0} (leads : D → ℕ → D → Type 0) (shown_of : W
     (y ready : CallerShown) (slots : List W) (r more : Round W) (t : TaskCountsShown) →
     RoundHasRun leads shown_of s (rounds * s.tasks) y slots r →
     ready.user.value.records ≡ r.client.value.records →
-    r.manager.renewal < ready.shared.renewal →
+    all_aborted ready.user.value ≡ all_aborted r.client.value → r.manager.renewal < ready.shared.renewal →
     RoundHasRun leads shown_of s s.tasks ready r.slots.items more →
     t.outcomes ≡ plus r.outcomes.outcomes more.outcomes.outcomes →
     t.attempts ≡ r.outcomes.attempts + more.outcomes.attempts →
     RanAll leads s shown_of ((rounds + 1) * s.tasks) y.shared.renewal more.manager.renewal y.user.value.records slots
-    more.client.value.records more.slots.items t.outcomes t.attempts
-ran_more leads shown_of s rounds y ready slots r more t h same less k e f =
+    more.client.value.records more.slots.items t.outcomes t.attempts (all_aborted y.user.value)
+    (all_aborted more.client.value)
+ran_more leads shown_of s rounds y ready slots r more t h same kept less k e f =
     let n : rounds * s.tasks + s.tasks ≡ (rounds + 1) * s.tasks = grind arith in
     let first = y.user.value.records in
     let middle = r.client.value.records in
     let last = more.client.value.records in
     let from = y.shared.renewal in
     let to = more.manager.renewal in
+    let old = all_aborted y.user.value in
+    let mid = all_aborted r.client.value in
+    let new = all_aborted more.client.value in
     let next : RanAll leads s shown_of s.tasks ready.shared.renewal to middle r.slots.items last more.slots.items
-    more.outcomes.outcomes more.outcomes.attempts =
-    subst (λ (l : List Record). RanAll leads s shown_of s.tasks ready.shared.renewal to l r.slots.items last
-    more.slots.items more.outcomes.outcomes more.outcomes.attempts) same k in
-    subst (λ (j : ℕ). RanAll leads s shown_of j from to first slots last more.slots.items t.outcomes t.attempts) n
+    more.outcomes.outcomes more.outcomes.attempts mid new =
+    subst (λ (l : List Aborted). RanAll leads s shown_of s.tasks ready.shared.renewal to middle r.slots.items last
+    more.slots.items more.outcomes.outcomes more.outcomes.attempts l new) kept
+    (subst (λ (l : List Record). RanAll leads s shown_of s.tasks ready.shared.renewal to l r.slots.items last
+    more.slots.items more.outcomes.outcomes more.outcomes.attempts (all_aborted ready.user.value) new) same k) in
+    subst (λ (j : ℕ). RanAll leads s shown_of j from to first slots last more.slots.items t.outcomes t.attempts old new)
+    n
     (subst (λ (u : Outcomes). RanAll leads s shown_of (rounds * s.tasks + s.tasks) from to first slots last
-    more.slots.items u t.attempts) (sym e)
+    more.slots.items u t.attempts old new) (sym e)
     (subst (λ (j : ℕ). RanAll leads s shown_of (rounds * s.tasks + s.tasks) from to first slots last
-    more.slots.items (plus r.outcomes.outcomes more.outcomes.outcomes) j) (sym f)
+    more.slots.items (plus r.outcomes.outcomes more.outcomes.outcomes) j old new) (sym f)
     (ran_both leads s shown_of (rounds * s.tasks) s.tasks from r.manager.renewal ready.shared.renewal to less
     first middle last slots r.slots.items more.slots.items
-    r.outcomes.outcomes more.outcomes.outcomes r.outcomes.attempts more.outcomes.attempts h next)))
+    r.outcomes.outcomes more.outcomes.outcomes r.outcomes.attempts more.outcomes.attempts old mid new h next)))
 
 -- tallies of so many tasks each
 total_of : {D P : Type 0} (leads : D → ℕ → D → Type 0) (s : Settings) (shown_of : P →
@@ -223,9 +248,11 @@ total_of leads s shown_of n from to [] (x ∷ shares) hs = elim hs [ ]
 total_of leads s shown_of n from to (p ∷ pairs) [] hs = elim hs [ ]
 
 pub ran_total : {D P : Type 0} (leads : D → ℕ → D → Type 0) (s : Settings) (shown_of : P →
-    SlotShown D) (n from to : ℕ) (before after : List Record) (pairs left : List P) (t : Outcomes) (a : ℕ) →
-    RanAll leads s shown_of n from to before pairs after left t a → total t ≡ length pairs * n
-ran_total leads s shown_of n from to before after pairs left t a h = ap (λ (u : Outcomes). total u) h.tallies ∙
+    SlotShown D) (n from to : ℕ) (before after : List Record) (pairs left : List P) (t : Outcomes) (a : ℕ)
+    (earlier later : List Aborted) → RanAll leads s shown_of n from to before pairs after left t a earlier later →
+    total t ≡ length pairs * n
+ran_total leads s shown_of n from to before after pairs left t a earlier later h =
+    ap (λ (u : Outcomes). total u) h.tallies ∙
     total_of leads s shown_of n from to pairs h.shares h.each
 
 -- the product of numbers below bounds

@@ -2,9 +2,11 @@
 use Rattle.std.proofs.Common.{true, false, Result, Ok, IsErrOf, ◌↔◌, ◌≡◌, ◌∙◌, ◌⊎◌, ℕ, ◌+◌, ◌*◌, ◌-◌}
 use Rattle.std.proofs.Common.{◌/◌, List, [], ◌∷◌, ◌++◌, length}
 use Rattle.std.proofs.Common.{length-append, map, refl, sym, inl, inr, ap, subst, arith}
-use Rattle.tx_memory.specs.Image.{In}
-use Rattle.stm_core.specs.Client.{Client, Record}
-use Rattle.stm_core.specs.History.{Serial}
+use Rattle.tx_memory.specs.Image.{In, Agrees}
+use Rattle.stm_core.specs.Client.{Client, Record, Aborted, all_aborted}
+use Rattle.stm_core.specs.History.{Serial, image_upto}
+use Rattle.stm_core.proofs.Lists.{nothing_in}
+use Rattle.stm_core.proofs.Orders.{in_cons}
 use Rattle.stm_region.specs.Shown.{RegionShown}
 use Rattle.vac_model.specs.declared.replies.Report.{Report}
 use Rattle.vac_model.specs.State.{State, empty_state, report}
@@ -32,10 +34,11 @@ use Rattle.stm_object.specs.Places.{reader_at}
 use Rattle.load_run.specs.Lists.{Paired, none, both}
 use Rattle.load_run.specs.Alone.{IsReadyForRound}
 use Rattle.load_run.specs.Keeping.{RecorderContents, AreKept}
-use Rattle.load_run.specs.Several.{AllKept, none_kept, one_kept, sum_of, added_up}
+use Rattle.load_run.specs.Several.{AllKept, none_kept, one_kept, Within, AllWithin, sum_of, added_up}
 use Rattle.load_run.specs.Slots.{SlotShown, shown, kept_at}
 use Rattle.load_run.specs.Load.{InterleavedAll, Share, drawn_share, HasShare, HasKeptShare, HasOpened, RoundHasRun}
-use Rattle.load_run.specs.Load.{is_load, LoadedKept, WasOpened, WasStopped, IsTooShort, IsStopOfLoad, StopsLoad}
+use Rattle.load_run.specs.Load.{is_load, HaveRead, LoadedKept, WasOpened, WasStopped, IsTooShort, IsStopOfLoad}
+use Rattle.load_run.specs.Load.{StopsLoad}
 use Rattle.load_run.proofs.Order.{added_known}
 use Rattle.load_run.proofs.Joining.{ran_total}
 use Rattle.load_run.proofs.Beginning.{long_opening}
@@ -80,6 +83,16 @@ module _ {D : Type 0} where
     spent = sum_drawn (λ x. x.outcomes.spent) xs i;
   }
 
+-- a share's aborted attempts are among those that the shares list
+drawn_within : {D : Type 0} (xs : List (Share (SlotShown D))) (l : List Aborted) →
+    AllWithin (λ (x : Share (SlotShown D)). x.aborts) xs l → (x : Share D) → In x (map drawn_share xs) →
+    Within x.aborts l
+drawn_within [] l h x i = absurd (nothing_in x i)
+drawn_within (y ∷ ys) l h x i = elim (in_cons (drawn_share y) x (map drawn_share ys) i) [
+  | inl e ↦ subst (λ (z : Share _). Within z.aborts l) e h.0
+  | inr j ↦ drawn_within ys l h.1 x j
+]
+
 module _ {D P : Type 0} (leads : D → ℕ → D → Type 0) (s : Settings) (shown_of : P → SlotShown D) (n from to : ℕ) where
   each_drawn : (ps : List P) (xs : List (Share (SlotShown D))) →
       Paired (λ p x. HasKeptShare leads s n from to (shown_of p) x) ps xs →
@@ -91,12 +104,14 @@ module _ {D P : Type 0} (leads : D → ℕ → D → Type 0) (s : Settings) (sho
 
   kept_drawn : (ps : List P) (xs : List (Share (SlotShown D))) (qs : List P) →
       Paired (λ p x. HasKeptShare leads s n from to (shown_of p) x) ps xs → Paired (λ x p. shown_of p ≡ x.left) xs qs →
-      AllKept (λ (x : Share D). x.attempts) (λ (x : Share D). x.records) (map drawn_share xs)
+      AllKept (λ (x : Share D). x.attempts) (λ (x : Share D). x.records) (λ (x : Share D). x.aborts)
+      (map drawn_share xs)
       (map (λ p. (shown_of p).kept) ps)
       (map (λ p. (shown_of p).kept) qs)
   kept_drawn [] [] [] none none = none_kept
   kept_drawn (p ∷ ps) (x ∷ xs) (q ∷ qs) (both h hs) (both k ks) =
-      one_kept (subst (λ (y : SlotShown D). AreKept x.attempts x.records (shown_of p).kept y.kept) (sym k)
+      one_kept (subst (λ (y : SlotShown D). AreKept x.attempts x.records x.aborts (shown_of p).kept y.kept)
+      (sym k)
       (record { first = reader_at from h.low; last = reader_at to h.high; between = h.kept }))
       (kept_drawn ps xs qs hs ks)
   kept_drawn [] (x ∷ xs) qs hs ks = elim hs [ ]
@@ -111,7 +126,7 @@ pub loaded_kept : {D G K : Type 0} (leads : D → ℕ → D → Type 0) (notes :
     (r : Report) →
     length slots ≡ s.clients →
     HasOpened leads s state last y →
-    AreKept y.user.value.attempt.number y.user.value.records before kept →
+    AreKept y.user.value.attempt.number y.user.value.records (all_aborted y.user.value) before kept →
     RoundHasRun leads (shown notes) s (s.rounds * s.tasks) y slots end →
     AreVersioned end.client.value.records →
     end.manager.size ≡ y.shared.size →
@@ -135,6 +150,12 @@ loaded_kept leads notes s state last slots y end before kept words r n opened ke
     ap (λ (c : ClientShown). c.value.records ++ added) opened.opens.client_is in
     let capacity : capacity_of end.manager ≡ s.blocks = ap (λ (k : ℕ). (k - 16) / 8) size ∙
     opened.opens.capacity in
+    let start : end.manager.first ≡ y.shared.opening = first ∙ opened.opens.first in
+    let old = all_aborted y.user.value in
+    let new = all_aborted after in
+    let read : HaveRead y.shared.opening after.records new =
+    λ a i. subst (λ (image : List ℕ). Agrees (image_upto image a.renewal a.version after.records) a.reads) start
+    (closes.ends.aborted a i).1 in
     let count : s.clients * (s.rounds * s.tasks) ≡ s.rounds * s.clients * s.tasks = grind arith in
     record {
       loaded = record {
@@ -159,15 +180,18 @@ loaded_kept leads notes s state last slots y end before kept words r n opened ke
         each_once = once_drawn all.shares all.rest all.each_once;
         tallies = all.tallies ∙ sym (tallies_drawn all.shares);
         all = ran_total leads s (shown notes) n_of from to y.user.value.records after.records slots left
-            end.outcomes.outcomes end.outcomes.attempts all ∙
+            end.outcomes.outcomes end.outcomes.attempts old new all ∙
             (ap (λ (k : ℕ). k * (s.rounds * s.tasks)) n ∙ count);
         alone = λ one. all.alone (n ∙ one);
         in_time = λ one time. all.in_time (n ∙ one) time;
       };
       made = all.made ∙ sym (sum_drawn (λ x. x.attempts) all.shares);
       setup_attempts = y.user.value.attempt.number;
-      opening_kept = subst (λ (l : List Record). AreKept y.user.value.attempt.number l before kept) records keeps;
+      opening_aborts = old;
+      opening_kept = subst (λ (l : List Record). AreKept y.user.value.attempt.number l old before kept) records keeps;
+      opening_read = λ a i. read a (all.stays a i);
       clients_kept = kept_drawn leads s (shown notes) n_of from to slots all.shares left all.each all.left_are;
+      clients_read = λ x j a i. read a (drawn_within all.shares new all.listed x j a i);
     }
 
 -- what holds between images and elements holds between the list of images and the elements
@@ -219,10 +243,13 @@ kept_on leads s draws_of drawing state ps qs t r n before after befores afters e
     alone = h.loaded.alone;
     in_time = h.loaded.in_time;
   };
+  opening_aborts = h.opening_aborts;
   opening_kept = h.opening_kept;
+  opening_read = h.opening_read;
   made = h.made;
   setup_attempts = h.setup_attempts;
   clients_kept = h.clients_kept;
+  clients_read = h.clients_read;
 }
 
 map_same : {A : Type 0} (xs : List A) → map (λ x. x) xs ≡ xs

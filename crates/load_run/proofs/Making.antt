@@ -1,15 +1,16 @@
 -- The attempts of a client, one call after the other.
-use Rattle.std.proofs.Common.{◌≡◌, ◌∙◌, ◌+◌, ◌≤◌, ℕ, suc, Bool, true, false, List, [], ◌∷◌, ◌++◌, Option, Some, None}
-use Rattle.std.proofs.Common.{Result, Ok, Err, length, length-append, append_assoc, append-nil, inl, inr, refl, sym}
+use Rattle.std.proofs.Common.{◌≡◌, ◌∙◌, ◌+◌, ◌≤◌, ℕ, Bool, true, false, List, [], ◌∷◌, ◌++◌, Option, Some, None}
+use Rattle.std.proofs.Common.{Ok, Err, length, length-append, append_assoc, append-nil, inl, inr, refl, sym}
 use Rattle.std.proofs.Common.{ap, subst, arith, if◌then◌else◌}
 use Rattle.std.proofs.lemmas.List.Elements.{All-nil, All-cons, All-append}
 use Rattle.std.specs.List.{All}
 use Rattle.std.specs.Prelude.{IfSome}
 use Rattle.std.specs.Global.{Box}
-use Rattle.stm_core.specs.Client.{Client, Record}
+use Rattle.stm_core.specs.Client.{Client, Record, Aborted, aborted_of, all_aborted}
 use Rattle.stm_core.specs.History.{Sub, done, keep, skip}
 use Rattle.stm_region.specs.Shown.{RegionShown}
 use Rattle.stm_object.specs.declared.place.CommitPosition.{CommitPosition}
+use Rattle.stm_object.specs.History.{AddsAborted}
 use Rattle.stm_object.specs.Places.{reader_at}
 use Rattle.vac_model.specs.declared.replies.Reply.{Reply}
 use Rattle.vac_manager.specs.Law.{IsFitting}
@@ -18,10 +19,10 @@ use Rattle.vac_manager.specs.Placed.{AddsAt}
 use Rattle.vac_manager.specs.Tracing.{Trace, trace_of, IsLastTraced, IsTraceOf, IsTraceOfAborted, AreAborted, HasTraced}
 use Rattle.vac_manager.specs.declared.note.CompletedCall.{CompletedCall}
 use Rattle.vac_manager.specs.declared.note.TracedAttempt.{TracedAttempt}
-use Rattle.load_run.specs.Keeping.{HasTracedAll, AddsTraces}
+use Rattle.load_run.specs.Keeping.{AddsTraces}
 use Rattle.load_run.specs.Lists.{Paired, none, both}
 use Rattle.load_run.specs.Made.{ReadsOneImageIfAborted, committed_in, aborted_in, IsNotAfter, AreAscending}
-use Rattle.load_run.specs.Made.{IsNotedWith, AreMade, AreLeft}
+use Rattle.load_run.specs.Made.{IsNotedWith, IsTraceOfListed, AreMade, AreLeft}
 
 pub paired_both : {A B : Type 0} (related : A → B → Type 0) (xs us : List A) (ys vs : List B) → Paired related xs ys →
     Paired related us vs → Paired related (xs ++ us) (ys ++ vs)
@@ -77,7 +78,7 @@ aborted_both (t ∷ ts) us = left_both t.commits t (aborted_in (ts ++ us)) (abor
 none_committed : (region : RegionShown) (v v' : Client) (ts : List Trace) → AreAborted IsFitting region v ts v' →
     committed_in ts ≡ []
 none_committed region v v' [] h = refl
-none_committed region v v' (t ∷ ts) h = rw h.1.is.aborts (none_committed region h.0 v' ts h.2)
+none_committed region v v' (t ∷ ts) h = rw h.1.0.is.aborts (none_committed region h.0 v' ts h.2)
 
 -- an attempt that aborted comes before the others
 pub aborted_one : (c : Bool) (t : Trace) (xs ts : List Trace) → c ≡ false → xs ≡ ts →
@@ -85,11 +86,11 @@ pub aborted_one : (c : Bool) (t : Trace) (xs ts : List Trace) → c ≡ false �
 aborted_one false t xs ts aborts e = ap (λ (l : List Trace). t ∷ l) e
 aborted_one true t xs ts aborts e = absurd (let n : true ≡ false = aborts in cc)
 
-all_aborted : (region : RegionShown) (v v' : Client) (ts : List Trace) → AreAborted IsFitting region v ts v' →
+each_aborted : (region : RegionShown) (v v' : Client) (ts : List Trace) → AreAborted IsFitting region v ts v' →
     aborted_in ts ≡ ts
-all_aborted region v v' [] h = refl
-all_aborted region v v' (t ∷ ts) h = aborted_one t.commits t (aborted_in ts) ts h.1.is.aborts
-    (all_aborted region h.0 v' ts h.2)
+each_aborted region v v' [] h = refl
+each_aborted region v v' (t ∷ ts) h = aborted_one t.commits t (aborted_in ts) ts h.1.0.is.aborts
+    (each_aborted region h.0 v' ts h.2)
 
 one_committed : (t : Trace) → t.commits ≡ true → committed_in (t ∷ []) ≡ t ∷ []
 one_committed t so = rw so refl
@@ -113,7 +114,7 @@ images : (region : RegionShown) (v v' : Client) (ts : List Trace) → AreAborted
     All ReadsOneImageIfAborted ts
 images region v v' [] h = All-nil ReadsOneImageIfAborted
 images region v v' (t ∷ ts) h =
-    All-cons ReadsOneImageIfAborted t ts (one_image region h.0 t h.1.is) (images region h.0 v' ts h.2)
+    All-cons ReadsOneImageIfAborted t ts (one_image region h.0 t h.1.0.is) (images region h.0 v' ts h.2)
 
 at_place : (renewal low high : ℕ) (t : Trace) → t.place ≡ reader_at renewal high → low ≤ high →
     IsNotAfter (reader_at renewal low) t.place
@@ -131,21 +132,66 @@ ascending : (region : RegionShown) (v v' : Client) (ts : List Trace) → AreAbor
 ascending region v v' [] h = subst (λ (w : Client). IsNotAfter (reader_at region.renewal v.floor)
     (reader_at region.renewal w.floor)) (sym h) (stays_at region.renewal v.floor)
 ascending region v v' (t ∷ ts) h = (
-  at_place region.renewal v.floor h.0.attempt.rv t h.1.is.place h.1.later,
+  at_place region.renewal v.floor h.0.attempt.rv t h.1.0.is.place h.1.0.later,
   ascending_from t.place (reader_at region.renewal h.0.floor) (reader_at region.renewal v'.floor) ts
-      (from_place region.renewal h.0.attempt.rv h.0.floor t h.1.is.place h.1.known)
+      (from_place region.renewal h.0.attempt.rv h.0.floor t h.1.0.is.place h.1.0.known)
       (ascending region h.0 v' ts h.2),
 )
 
+abbrev rest_of : {A : Type 0} → List A → List A → List A
+rest_of [] ys = ys
+rest_of (x ∷ xs) [] = []
+rest_of (x ∷ xs) (y ∷ ys) = rest_of xs ys
+
+rest_is : {A : Type 0} (xs ys : List A) → rest_of xs (xs ++ ys) ≡ ys
+rest_is [] ys = refl
+rest_is (x ∷ xs) ys = rest_is xs ys
+
+-- what stands behind the same list is the same
+pub same_rest : {A : Type 0} (xs ys zs : List A) → xs ++ ys ≡ xs ++ zs → ys ≡ zs
+same_rest xs ys zs e = sym (rest_is xs ys) ∙ (ap (λ (l : List _). rest_of xs l) e ∙ rest_is xs zs)
+
+-- the trace of an attempt that aborted is that of the attempt that the client lists
+one_listed : (region : RegionShown) (w v : Client) (t : Trace) → IsTraceOfAborted IsFitting region v t →
+    AddsAborted region w v → IsTraceOfListed t (aborted_of v.attempt)
+one_listed region w v t h a = record {
+  place = h.place ∙ ap (λ (n : ℕ). reader_at n v.attempt.rv) (sym a.renewal);
+  reads = h.reads;
+  right = h.right;
+}
+
+-- the attempts that aborted are those that the client lists behind its earlier ones
+aborts_listed : (region : RegionShown) (v v' : Client) (ts : List Trace) → AreAborted IsFitting region v ts v' →
+    (aborts : List Aborted) × (all_aborted v' ≡ all_aborted v ++ aborts) × Paired IsTraceOfListed ts aborts
+aborts_listed region v v' [] h = ([], ap all_aborted h ∙ sym (append-nil (all_aborted v)), none)
+aborts_listed region v v' (t ∷ ts) h =
+    let more = aborts_listed region h.0 v' ts h.2 in
+    let one : List Aborted = aborted_of h.0.attempt ∷ [] in (
+      aborted_of h.0.attempt ∷ more.0,
+      more.1 ∙ (ap (λ (l : List Aborted). l ++ more.0) h.1.1.listed ∙ append_assoc (all_aborted v) one more.0),
+      both (one_listed region v h.0 t h.1.0.is h.1.1) more.2,
+    )
+
+these_listed : (region : RegionShown) (v w v' : Client) (ts : List Trace) (aborts : List Aborted) →
+    AreAborted IsFitting region v ts w → all_aborted v' ≡ all_aborted w → all_aborted v' ≡ all_aborted v ++ aborts →
+    Paired IsTraceOfListed ts aborts
+these_listed region v w v' ts aborts h e grown =
+    let all = aborts_listed region v w ts h in
+    subst (λ (l : List Aborted). Paired IsTraceOfListed ts l)
+    (same_rest (all_aborted v) all.0 aborts (sym all.1 ∙ (sym e ∙ grown))) all.2
+
 -- the attempts of a call that was refused
-pub made_refused : (region : RegionShown) (v v' : Client) (ts : List Trace) → AreAborted IsFitting region v ts v' →
-    AreMade (reader_at region.renewal v.floor) (reader_at region.renewal v'.floor) [] [] ts
-made_refused region v v' ts h =
+pub made_refused : (region : RegionShown) (v v' : Client) (ts : List Trace) (aborts : List Aborted) →
+    all_aborted v' ≡ all_aborted v ++ aborts → AreAborted IsFitting region v ts v' →
+    AreMade (reader_at region.renewal v.floor) (reader_at region.renewal v'.floor) [] [] aborts ts
+made_refused region v v' ts aborts grown h =
     let e = none_committed region v v' ts h in
     record {
       ascending = ascending region v v' ts h;
       of_records = subst (λ (l : List Trace). Paired IsTraceOf l []) (sym e) none;
       of_calls = subst (λ (l : List Trace). Paired IsNotedWith [] l) (sym e) none;
+      listed = subst (λ (l : List Trace). Paired IsTraceOfListed l aborts) (sym (each_aborted region v v' ts h))
+          (these_listed region v v' v' ts aborts h refl grown);
       aborted = images region v v' ts h;
     }
 
@@ -160,10 +206,12 @@ last_place renewal before after t r is here later known =
 
 -- the attempts of a call that was answered
 pub made_answered : (region : RegionShown) (v w v' : Client) (n : CompletedCall) (r : Record) (ts : List Trace)
-    (t : Trace) → AreAborted IsFitting region v ts w → w.floor ≤ t.place.version → IsTraceOf t r →
-    r.renewal ≡ region.renewal → r.version ≤ v'.floor → IsNotedWith n t →
-    AreMade (reader_at region.renewal v.floor) (reader_at region.renewal v'.floor) (n ∷ []) (r ∷ []) (ts ++ (t ∷ []))
-made_answered region v w v' n r ts t h later is here known noted =
+    (t : Trace) (aborts : List Aborted) → AreAborted IsFitting region v ts w → w.floor ≤ t.place.version →
+    IsTraceOf t r → r.renewal ≡ region.renewal → r.version ≤ v'.floor → IsNotedWith n t →
+    all_aborted v' ≡ all_aborted w → all_aborted v' ≡ all_aborted v ++ aborts →
+    AreMade (reader_at region.renewal v.floor) (reader_at region.renewal v'.floor) (n ∷ []) (r ∷ []) aborts
+    (ts ++ (t ∷ []))
+made_answered region v w v' n r ts t aborts h later is here known noted stays grown =
     let one : committed_in (ts ++ (t ∷ [])) ≡ t ∷ [] = committed_both ts (t ∷ [])
     ∙ (ap (λ (l : List Trace). l ++ committed_in (t ∷ [])) (none_committed region v w ts h)
     ∙ one_committed t is.commits) in
@@ -173,6 +221,11 @@ made_answered region v w v' n r ts t h later is here known noted =
           (last_place region.renewal w.floor v'.floor t r is here later known);
       of_records = subst (λ (l : List Trace). Paired IsTraceOf l (r ∷ [])) (sym one) (both is none);
       of_calls = subst (λ (l : List Trace). Paired IsNotedWith (n ∷ []) l) (sym one) (both noted none);
+      listed = subst (λ (l : List Trace). Paired IsTraceOfListed l aborts)
+          (sym (aborted_both ts (t ∷ []) ∙ (ap (λ (l : List Trace). l ++ aborted_in (t ∷ []))
+          (each_aborted region v w ts
+          h) ∙ (ap (λ (l : List Trace). ts ++ l) (none_aborted t is.commits) ∙ append-nil ts))))
+          (these_listed region v w v' ts aborts h stays grown);
       aborted = All-append ReadsOneImageIfAborted ts (t ∷ []) (images region v w ts h)
           (All-cons ReadsOneImageIfAborted t [] (committed t is.commits) (All-nil ReadsOneImageIfAborted));
     }
@@ -187,9 +240,9 @@ sub_front : {A : Type 0} (xs ys : List A) → Sub xs (xs ++ ys)
 sub_front [] ys = done
 sub_front (x ∷ xs) ys = keep x (sub_front xs ys)
 
-sub_behind : {A : Type 0} (us bs xs : List A) → Sub xs bs → Sub xs (us ++ bs)
-sub_behind [] bs xs p = p
-sub_behind (u ∷ us) bs xs p = skip u (sub_behind us bs xs p)
+sub_behind : {A : Type 0} (us ds xs : List A) → Sub xs ds → Sub xs (us ++ ds)
+sub_behind [] ds xs p = p
+sub_behind (u ∷ us) ds xs p = skip u (sub_behind us ds xs p)
 
 sub_two : {A : Type 0} {xs us : List A} (ys vs : List A) → Sub xs us → Sub ys vs → Sub (xs ++ ys) (us ++ vs)
 sub_two ys vs (done {ys = us}) q = sub_behind us vs ys q
@@ -216,21 +269,24 @@ left_two ts us ls ms h k = record {
 
 -- ---- one call after the other
 
-made_both : (p q r : CommitPosition) (ns ms : List CompletedCall) (rs qs : List Record) (ts us : List Trace) →
-    AreMade p q ns rs ts → AreMade q r ms qs us → AreMade p r (ns ++ ms) (rs ++ qs) (ts ++ us)
-made_both p q r ns ms rs qs ts us h k = record {
+made_both : (p q r : CommitPosition) (ns ms : List CompletedCall) (rs qs : List Record) (gs ds : List Aborted)
+    (ts us : List Trace) → AreMade p q ns rs gs ts → AreMade q r ms qs ds us →
+    AreMade p r (ns ++ ms) (rs ++ qs) (gs ++ ds) (ts ++ us)
+made_both p q r ns ms rs qs gs ds ts us h k = record {
   ascending = ascending_both p q r ts us h.ascending k.ascending;
   of_records = subst (λ (l : List Trace). Paired IsTraceOf l (rs ++ qs)) (sym (committed_both ts us))
       (paired_both IsTraceOf (committed_in ts) (committed_in us) rs qs h.of_records k.of_records);
   of_calls = subst (λ (l : List Trace). Paired IsNotedWith (ns ++ ms) l) (sym (committed_both ts us))
       (paired_both IsNotedWith ns ms (committed_in ts) (committed_in us) h.of_calls k.of_calls);
+  listed = subst (λ (l : List Trace). Paired IsTraceOfListed l (gs ++ ds)) (sym (aborted_both ts us))
+      (paired_both IsTraceOfListed (aborted_in ts) (aborted_in us) gs ds h.listed k.listed);
   aborted = All-append ReadsOneImageIfAborted ts us h.aborted k.aborted;
 }
 
 pub adds_both : (p q r : CommitPosition) (n m : ℕ) (ns ms : List CompletedCall) (rs qs : List Record)
-    (a b c : Option (List Trace)) → AddsTraces p q n ns rs a b → AddsTraces q r m ms qs b c →
-    AddsTraces p r (n + m) (ns ++ ms) (rs ++ qs) a c
-adds_both p q r n m ns ms rs qs a b c h k = λ all is.
+    (gs ds : List Aborted) (a b c : Option (List Trace)) → AddsTraces p q n ns rs gs a b →
+    AddsTraces q r m ms qs ds b c → AddsTraces p r (n + m) (ns ++ ms) (rs ++ qs) (gs ++ ds) a c
+adds_both p q r n m ns ms rs qs gs ds a b c h k = λ all is.
     let o = k all is in
     let e = h o.earlier o.before_is in record {
       earlier = e.earlier;
@@ -239,13 +295,13 @@ adds_both p q r n m ns ms rs qs a b c h k = λ all is.
       all_are = o.all_are ∙ (ap (λ (l : List Trace). l ++ o.left) e.all_are ∙ append_assoc e.earlier e.left o.left);
       made = e.made ++ o.made;
       number = omega (arith, length-append e.made o.made, e.number, o.number);
-      are_made = made_both p q r ns ms rs qs e.made o.made e.are_made o.are_made;
+      are_made = made_both p q r ns ms rs qs gs ds e.made o.made e.are_made o.are_made;
       are_left = left_two e.made o.made e.left o.left e.are_left o.are_left;
     }
 
 -- no attempt
 pub adds_none : (renewal floor : ℕ) (a b : Option (List Trace)) → b ≡ a →
-    AddsTraces (reader_at renewal floor) (reader_at renewal floor) 0 [] [] a b
+    AddsTraces (reader_at renewal floor) (reader_at renewal floor) 0 [] [] [] a b
 adds_none renewal floor a b e = λ all is. record {
   earlier = all;
   before_is = sym e ∙ is;
@@ -257,6 +313,7 @@ adds_none renewal floor a b e = λ all is. record {
     ascending = stays_at renewal floor;
     of_records = none;
     of_calls = none;
+    listed = none;
     aborted = All-nil ReadsOneImageIfAborted;
   };
   are_left = all_left [];
@@ -267,9 +324,10 @@ as_many n m k l e f = omega (arith, e, f)
 
 -- the attempts of a call that was refused are traced
 pub adds_refused : {E : Type 0} (region : RegionShown) (f : E) (v v' : Client) (n : ℕ) (a b : Option (List Trace)) →
-    v.attempt.number + n ≡ v'.attempt.number → HasTraced IsFitting region {A = Reply} (Err f) v v' a b →
-    AddsTraces (reader_at region.renewal v.floor) (reader_at region.renewal v'.floor) n [] [] a b
-adds_refused region f v v' n a b begun h = λ all is.
+    (aborts : List Aborted) → v.attempt.number + n ≡ v'.attempt.number →
+    all_aborted v' ≡ all_aborted v ++ aborts → HasTraced IsFitting region {A = Reply} (Err f) v v' a b →
+    AddsTraces (reader_at region.renewal v.floor) (reader_at region.renewal v'.floor) n [] [] aborts a b
+adds_refused region f v v' n a b aborts begun grown h = λ all is.
     let o = h.each all is in record {
       earlier = o.0;
       before_is = o.2;
@@ -277,7 +335,7 @@ adds_refused region f v v' n a b begun h = λ all is.
       all_are = o.3;
       made = o.1;
       number = as_many v.attempt.number (length o.1) v'.attempt.number n o.5 begun;
-      are_made = made_refused region v v' o.1 o.4;
+      are_made = made_refused region v v' o.1 aborts grown o.4;
       are_left = all_left o.1;
     }
 
@@ -322,51 +380,52 @@ noted_with None b all ts t is e last = tt
 
 -- the attempts of a call that was answered are traced, and its last one may be taken out
 pub adds_answered : {E : Type 0} (region : RegionShown) (tag : List ℕ) (place : CommitPosition) (reply : Reply)
-    (v v' : Client) (note : CompletedCall) (n : ℕ) (a b c : Option (List Trace)) →
+    (v v' : Client) (note : CompletedCall) (n : ℕ) (a b c : Option (List Trace)) (aborts : List Aborted) →
     (adds : AddsAt region.renewal tag place v v') → v.attempt.number + n ≡ v'.attempt.number →
-    HasTraced IsFitting region {X = E} (Ok reply) v v' a b →
+    all_aborted v' ≡ all_aborted v ++ aborts → HasTraced IsFitting region {X = E} (Ok reply) v v' a b →
     IfSome note.attempt (λ x. IsLastTraced b (trace_of x.value)) → HasTakenOut b c →
     AddsTraces (reader_at region.renewal v.floor) (reader_at region.renewal v'.floor) n (note ∷ [])
-    (adds.adds.added ∷ []) a c
-adds_answered region tag place reply v v' note n a b c adds begun h noted taken = λ all is. elim (taken all is) [
-  | inl same ↦ (
-      let o = h.each all same in
-      record {
-        earlier = o.0;
-        before_is = o.2;
-        left = o.1;
-        all_are = o.3;
-        made = o.1;
-        number = as_many v.attempt.number (length o.1) v'.attempt.number n o.5 begun;
-        are_made = made all same;
-        are_left = all_left o.1;
-      })
-  | inr out ↦ (
-      let whole = all ++ (out.0 ∷ []) in
-      let o = h.each whole out.1 in
-      let k = o.4 in
-      record {
-        earlier = o.0;
-        before_is = o.2;
-        left = k.0;
-        all_are = same_front all (o.0 ++ k.0) out.0 k.1
-            (o.3 ∙ (ap (λ (l : List Trace). o.0 ++ l) k.2 ∙ sym (append_assoc o.0 k.0 (k.1 ∷ []))));
-        made = o.1;
-        number = as_many v.attempt.number (length o.1) v'.attempt.number n o.5 begun;
-        are_made = made whole out.1;
-        are_left = subst (λ (l : List Trace). AreLeft l k.0) (sym k.2) (front_left k.0 k.1 k.4.is.commits);
-      })
-]
+    (adds.adds.added ∷ []) aborts a c
+adds_answered region tag place reply v v' note n a b c aborts adds begun grown h noted taken =
+    λ all is. elim (taken all is) [
+      | inl same ↦ (
+          let o = h.each all same in
+          record {
+            earlier = o.0;
+            before_is = o.2;
+            left = o.1;
+            all_are = o.3;
+            made = o.1;
+            number = as_many v.attempt.number (length o.1) v'.attempt.number n o.5 begun;
+            are_made = made all same;
+            are_left = all_left o.1;
+          })
+      | inr out ↦ (
+          let whole = all ++ (out.0 ∷ []) in
+          let o = h.each whole out.1 in
+          let k = o.4 in
+          record {
+            earlier = o.0;
+            before_is = o.2;
+            left = k.0;
+            all_are = same_front all (o.0 ++ k.0) out.0 k.1
+                (o.3 ∙ (ap (λ (l : List Trace). o.0 ++ l) k.2 ∙ sym (append_assoc o.0 k.0 (k.1 ∷ []))));
+            made = o.1;
+            number = as_many v.attempt.number (length o.1) v'.attempt.number n o.5 begun;
+            are_made = made whole out.1;
+            are_left = subst (λ (l : List Trace). AreLeft l k.0) (sym k.2) (front_left k.0 k.1 k.4.is.commits);
+          })
+    ]
   where
     made : (all : List Trace) (same : b ≡ Some all) → AreMade (reader_at region.renewal v.floor)
-        (reader_at region.renewal v'.floor) (note ∷ []) (adds.adds.added ∷ []) (h.each all same).1
+        (reader_at region.renewal v'.floor) (note ∷ []) (adds.adds.added ∷ []) aborts (h.each all same).1
     made all same =
         let o = h.each all same in
         let k = o.4 in
         let made_it : IsTraceOf k.1 adds.adds.added = subst (λ (x : Record). IsTraceOf k.1 x)
         (same_last v.records v.records k.4.added adds.adds.added (sym k.4.records ∙ adds.adds.records)) k.4.is in
         subst (λ (l : List Trace). AreMade (reader_at region.renewal v.floor) (reader_at region.renewal v'.floor)
-        (note ∷ []) (adds.adds.added ∷ []) l) (sym k.2)
-        (made_answered region v k.3.0 v' note adds.adds.added k.0 k.1 k.3.1 k.3.2 made_it adds.adds.renewal_is
+        (note ∷ []) (adds.adds.added ∷ []) aborts l) (sym k.2)
+        (made_answered region v k.3.0 v' note adds.adds.added k.0 k.1 aborts k.3.1 k.3.2 made_it adds.adds.renewal_is
         adds.adds.known (noted_with note.attempt b all (o.0 ++ k.0) k.1 same
-        (o.3 ∙ (ap (λ (l : List Trace). o.0 ++ l) k.2 ∙ sym (append_assoc o.0 k.0 (k.1 ∷ [])))) noted))
+        (o.3 ∙ (ap (λ (l : List Trace). o.0 ++ l) k.2 ∙ sym (append_assoc o.0 k.0 (k.1 ∷ [])))) noted) k.3.4 grown)

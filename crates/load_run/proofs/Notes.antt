@@ -3,9 +3,10 @@ use Rattle.std.proofs.Common.{◌≡◌, ◌∙◌, ℕ, ◌+◌, List, [], ◌�
 use Rattle.std.proofs.Common.{sym, ap, subst, append_assoc, append-nil, arith}
 use Rattle.std.specs.Prelude.{IfSome}
 use Rattle.std.specs.Global.{Box}
-use Rattle.stm_core.specs.Client.{Client, Record}
+use Rattle.stm_core.specs.Client.{Client, Record, Aborted, all_aborted}
 use Rattle.stm_region.specs.Shown.{RegionShown}
 use Rattle.stm_object.specs.declared.place.CommitPosition.{CommitPosition}
+use Rattle.stm_object.specs.History.{GrowsAborted}
 use Rattle.stm_object.specs.Places.{reader_at}
 use Rattle.vac_model.specs.declared.tasks.Task.{Task}
 use Rattle.vac_model.specs.Code.{code}
@@ -22,6 +23,7 @@ use Rattle.load_run.specs.Lists.{none, both}
 use Rattle.load_run.specs.Keeping.{RecorderContents, AddsTraces, AreKept, AreKeptBetween, HasKeptAdded}
 use Rattle.load_run.specs.Made.{IsNotAfter}
 use Rattle.load_run.proofs.Making.{paired_both, same_last, ascending_from, adds_both, adds_none, adds_refused}
+use Rattle.load_run.proofs.Making.{same_rest}
 use Rattle.load_run.proofs.Making.{adds_answered}
 
 behind_none : (k : Option (List CompletedCall)) → notes_behind k [] ≡ k
@@ -35,16 +37,16 @@ behind_both (Some ks) ns ms = ap (λ (l : List CompletedCall). Some l) (append_a
 
 -- ---- recorded calls
 
-pub are_kept_both : (first middle last : CommitPosition) (n m : ℕ) (rs qs : List Record) (a b c : RecorderContents) →
-    AreKeptBetween first middle n rs a b → AreKeptBetween middle last m qs b c →
-    AreKeptBetween first last (n + m) (rs ++ qs) a c
-are_kept_both first middle last n m rs qs a b c p q = record {
+pub are_kept_both : (first middle last : CommitPosition) (n m : ℕ) (rs qs : List Record) (gs ds : List Aborted)
+    (a b c : RecorderContents) → AreKeptBetween first middle n rs gs a b → AreKeptBetween middle last m qs ds b c →
+    AreKeptBetween first last (n + m) (rs ++ qs) (gs ++ ds) a c
+are_kept_both first middle last n m rs qs gs ds a b c p q = record {
   notes = p.notes ++ q.notes;
   are_of = paired_both IsNoted p.notes q.notes rs qs p.are_of q.are_of;
   kept = q.kept
       ∙ (ap (λ (k : Option (List CompletedCall)). notes_behind k q.notes) p.kept
       ∙ behind_both a.calls p.notes q.notes);
-  traced = adds_both first middle last n m p.notes q.notes rs qs a.traces b.traces c.traces p.traced q.traced;
+  traced = adds_both first middle last n m p.notes q.notes rs qs gs ds a.traces b.traces c.traces p.traced q.traced;
 }
 
 -- nothing was added, and nothing kept
@@ -54,6 +56,8 @@ kept_none renewal v a b e = record {
   records = sym (append-nil v.records);
   attempts = 0;
   number = omega arith;
+  aborts = [];
+  listed = sym (append-nil (all_aborted v));
   kept = record {
     notes = [];
     are_of = none;
@@ -64,22 +68,24 @@ kept_none renewal v a b e = record {
 
 -- a call that was refused is not recorded, and its attempts are traced
 pub kept_refused : (region : RegionShown) (f : Fault) (n : ℕ) (v v' : Client) (a b c : RecorderContents) →
-    v'.records ≡ v.records → v.attempt.number + n ≡ v'.attempt.number →
+    v'.records ≡ v.records → v.attempt.number + n ≡ v'.attempt.number → GrowsAborted v v' →
     HasTraced IsFitting region {A = Reply} (Err f) v v' a.traces b.traces → b.calls ≡ a.calls → c ≡ b →
     HasKeptAdded region.renewal v v' a c
-kept_refused region f n v v' a b c same begun attempts calls e = record {
+kept_refused region f n v v' a b c same begun grows attempts calls e = record {
   added = [];
   records = same ∙ sym (append-nil v.records);
   attempts = n;
   number = begun;
+  aborts = grows.0;
+  listed = grows.1;
   kept = record {
     notes = [];
     are_of = none;
     kept = ap (λ (k : RecorderContents). k.calls) e ∙ (calls ∙ sym (behind_none a.calls));
     traced = subst (λ (o : Option (List Trace)). AddsTraces (reader_at region.renewal v.floor)
-        (reader_at region.renewal v'.floor) n [] [] a.traces o)
+        (reader_at region.renewal v'.floor) n [] [] grows.0 a.traces o)
         (sym (ap (λ (k : RecorderContents). k.traces) e))
-        (adds_refused {E = Fault} region f v v' n a.traces b.traces begun attempts);
+        (adds_refused {E = Fault} region f v v' n a.traces b.traces grows.0 begun grows.1 attempts);
   };
 }
 
@@ -113,13 +119,16 @@ noted_made fits region None reply v v' r before traced e h last = tt
 -- the call that added a record was kept
 pub kept_one : (region : RegionShown) (t : Task) (p : PlacedReply) (n : ℕ) (v v' : Client) (a b c : RecorderContents) →
     AddsAt region.renewal (code t p.reply) p.place v v' → v.attempt.number + n ≡ v'.attempt.number →
+    GrowsAborted v v' →
     HasTraced IsFitting region {X = Fault} (Ok p.reply) v v' a.traces b.traces → b.calls ≡ a.calls →
     HasKept t p b.traces b.calls c.calls → HasTakenOut b.traces c.traces → HasKeptAdded region.renewal v v' a c
-kept_one region t p n v v' a b c adds begun attempts same h taken = record {
+kept_one region t p n v v' a b c adds begun grows attempts same h taken = record {
   added = adds.adds.added ∷ [];
   records = adds.adds.records;
   attempts = n;
   number = begun;
+  aborts = grows.0;
+  listed = grows.1;
   kept = record {
     notes = h.note ∷ [];
     are_of = both (record {
@@ -130,7 +139,7 @@ kept_one region t p n v v' a b c adds begun attempts same h taken = record {
     }) none;
     kept = h.kept ∙ ap (λ (k : Option (List CompletedCall)). notes_behind k (h.note ∷ [])) same;
     traced = adds_answered {E = Fault} region (code t p.reply) p.place p.reply v v' h.note n a.traces b.traces
-        c.traces adds begun attempts h.attempt taken;
+        c.traces grows.0 adds begun grows.1 attempts h.attempt taken;
   };
 }
 
@@ -145,42 +154,32 @@ kept_both renewal v w u a b c p q = record {
   records = q.records ∙ (ap (λ (l : List Record). l ++ q.added) p.records ∙ append_assoc v.records p.added q.added);
   attempts = p.attempts + q.attempts;
   number = all_begun v.attempt.number w.attempt.number u.attempt.number p.attempts q.attempts p.number q.number;
+  aborts = p.aborts ++ q.aborts;
+  listed = q.listed ∙ (ap (λ (l : List Aborted). l ++ q.aborts) p.listed
+      ∙ append_assoc (all_aborted v) p.aborts q.aborts);
   kept = are_kept_both (reader_at renewal v.floor) (reader_at renewal w.floor) (reader_at renewal u.floor) p.attempts
-      q.attempts p.added q.added a b c p.kept q.kept;
+      q.attempts p.added q.added p.aborts q.aborts a b c p.kept q.kept;
 }
-
-abbrev rest_of : {A : Type 0} → List A → List A → List A
-rest_of [] ys = ys
-rest_of (x ∷ xs) [] = []
-rest_of (x ∷ xs) (y ∷ ys) = rest_of xs ys
-
-rest_is : {A : Type 0} (xs ys : List A) → rest_of xs (xs ++ ys) ≡ ys
-rest_is [] ys = refl
-rest_is (x ∷ xs) ys = rest_is xs ys
-
--- what stands behind the same list is the same
-pub same_rest : {A : Type 0} (xs ys zs : List A) → xs ++ ys ≡ xs ++ zs → ys ≡ zs
-same_rest xs ys zs e = sym (rest_is xs ys) ∙ (ap (λ (l : List _). rest_of xs l) e ∙ rest_is xs zs)
 
 as_many : (n m k l : ℕ) → n + m ≡ k → n + l ≡ k → m ≡ l
 as_many n m k l e f = omega (arith, e, f)
 
 -- the calls of exactly these records, and this number of attempts, were kept
 pub kept_added : (renewal : ℕ) (v v' : Client) (n : ℕ) (rs : List Record) (a b : RecorderContents) →
-    v'.records ≡ v.records ++ rs → v.attempt.number + n ≡ v'.attempt.number → HasKeptAdded renewal v v' a b →
-    AreKeptBetween (reader_at renewal v.floor) (reader_at renewal v'.floor) n rs a b
+    v'.records ≡ v.records ++ rs → v.attempt.number + n ≡ v'.attempt.number → (h : HasKeptAdded renewal v v' a b) →
+    AreKeptBetween (reader_at renewal v.floor) (reader_at renewal v'.floor) n rs h.aborts a b
 kept_added renewal v v' n rs a b e begun h =
     let first = reader_at renewal v.floor in
     let last = reader_at renewal v'.floor in
-    subst (λ (k : ℕ). AreKeptBetween first last k rs a b)
+    subst (λ (k : ℕ). AreKeptBetween first last k rs h.aborts a b)
     (as_many v.attempt.number h.attempts v'.attempt.number n h.number begun)
-    (subst (λ (l : List Record). AreKeptBetween first last h.attempts l a b)
+    (subst (λ (l : List Record). AreKeptBetween first last h.attempts l h.aborts a b)
     (same_rest v.records h.added rs (sym h.records ∙ e)) h.kept)
 
 -- the same from some position to another one
 pub kept_all : (renewal : ℕ) (v v' : Client) (n : ℕ) (rs : List Record) (a b : RecorderContents) →
-    v'.records ≡ v.records ++ rs → v.attempt.number + n ≡ v'.attempt.number → HasKeptAdded renewal v v' a b →
-    AreKept n rs a b
+    v'.records ≡ v.records ++ rs → v.attempt.number + n ≡ v'.attempt.number → (h : HasKeptAdded renewal v v' a b) →
+    AreKept n rs h.aborts a b
 kept_all renewal v v' n rs a b e begun h = record {
   first = reader_at renewal v.floor;
   last = reader_at renewal v'.floor;
@@ -188,9 +187,9 @@ kept_all renewal v v' n rs a b e begun h = record {
 }
 
 -- the same from an earlier position on
-pub kept_from : (p q last : CommitPosition) (n : ℕ) (rs : List Record) (a b : RecorderContents) → IsNotAfter p q →
-    AreKeptBetween q last n rs a b → AreKeptBetween p last n rs a b
-kept_from p q last n rs a b less h = record {
+pub kept_from : (p q last : CommitPosition) (n : ℕ) (rs : List Record) (gs : List Aborted) (a b : RecorderContents) →
+    IsNotAfter p q → AreKeptBetween q last n rs gs a b → AreKeptBetween p last n rs gs a b
+kept_from p q last n rs gs a b less h = record {
   notes = h.notes;
   are_of = h.are_of;
   kept = h.kept;
@@ -208,6 +207,7 @@ kept_from p q last n rs a b less h = record {
           ascending = ascending_from p q last o.made less k.ascending;
           of_records = k.of_records;
           of_calls = k.of_calls;
+          listed = k.listed;
           aborted = k.aborted;
         };
         are_left = o.are_left;

@@ -2,7 +2,8 @@
 use Rattle.std.proofs.Common.{◌≡◌, ◌∙◌, ℕ, suc, ◌+◌, ◌*◌, ◌-◌, ◌≤◌, List, [], ◌∷◌, ◌++◌, length, All, inl, inr, refl}
 use Rattle.std.proofs.Common.{sym, ap, subst, arith}
 use Rattle.tx_memory.specs.Image.{In}
-use Rattle.stm_core.specs.Client.{Client, Record, merged}
+use Rattle.stm_core.specs.Client.{Client, Record, Aborted, all_aborted, merged}
+use Rattle.stm_core.proofs.Eras.{append_left, append_right}
 use Rattle.stm_core.specs.Invariant.{Sorted}
 use Rattle.stm_core.proofs.Orders.{in_merged}
 use Rattle.stm_core.proofs.Whole.{merged_sorted}
@@ -19,7 +20,7 @@ use Rattle.stm_object.specs.Places.{reader_at}
 use Rattle.load_run.specs.Keeping.{AreKeptBetween}
 use Rattle.load_run.specs.Slots.{SlotShown}
 use Rattle.load_run.specs.Looping.{AreKnown, plus}
-use Rattle.load_run.specs.Several.{sum_of, added_up, Interleaved}
+use Rattle.load_run.specs.Several.{Within, AllWithin, sum_of, added_up, Interleaved}
 use Rattle.load_run.specs.Lists.{Paired, none, both}
 use Rattle.load_run.specs.Load.{InterleavedAll, all_merged, Gathered, DidWork, DidAllWork, IsWorker, IsCrew}
 use Rattle.load_run.specs.Load.{IsMember, CanGather, Share, HasKeptShare, RanAll}
@@ -48,11 +49,13 @@ pub record SplitKeeps (before after : ClientShown) : Type 0 where
   pub records : after.value.records ≡ before.value.records
   pub floor : after.value.floor ≡ before.value.floor
   pub grants : after.value.grants + 1 ≡ before.value.grants
+  pub aborted : all_aborted after.value ≡ all_aborted before.value
 
 pub split_keeps : (before after other : ClientShown) → Splits before after other → SplitKeeps before after
 split_keeps before after other s = record {
   records = ap (λ (x : ClientShown). x.value.records) s.mine;
   floor = ap (λ (x : ClientShown). x.value.floor) s.mine;
+  aborted = ap (λ (x : ClientShown). all_aborted x.value) s.mine;
   grants = let q : after.value.grants ≡ before.value.grants - 1 = ap (λ (x : ClientShown). x.value.grants) s.mine in
       omega (arith, q, s.some);
 }
@@ -82,9 +85,12 @@ pub record Did {D : Type 0} (leads : D → ℕ → D → Type 0) (s : Settings) 
   pub records_are : after.value.records ≡ before ++ added
   pub sorted : Sorted added
   pub later : (r : Record) → In r added → IsLater renewal floor r
+  pub aborts : List Aborted
+  pub listed : Within aborts (all_aborted after.value)
   pub has : HasKeptShare leads s s.tasks renewal renewal state (record {
     records = added;
     attempts = t.attempts;
+    aborts = aborts;
     outcomes = t.outcomes;
     left = left;
   })
@@ -111,6 +117,9 @@ did leads shown_of s manager floor before slot w r h k =
       later = λ r i. subst (λ (m : RegionShown). IsLater m.renewal floor r) h.manager_is
           (added_later y.shared.renewal floor y.user.value.floor y'.user.value.floor r (omega (arith, h.knows))
           (a.each r i));
+      aborts = k.kept.aborts;
+      listed = λ b i. subst (λ (l : List Aborted). In b l) (sym k.kept.listed)
+          (append_right (all_aborted y.user.value) k.kept.aborts b i);
       has = record {
         has = record {
           tasks = l.tasks;
@@ -127,9 +136,11 @@ did leads shown_of s manager floor before slot w r h k =
         low = y.user.value.floor;
         high = y'.user.value.floor;
         kept = subst (λ (x : SlotShown _). AreKeptBetween (reader_at manager.renewal y.user.value.floor)
-            (reader_at manager.renewal y'.user.value.floor) r.outcomes.attempts a.added x.kept left.kept) same
+            (reader_at manager.renewal y'.user.value.floor) r.outcomes.attempts a.added k.kept.aborts x.kept left.kept)
+            same
             (subst (λ (m : RegionShown). AreKeptBetween (reader_at m.renewal y.user.value.floor)
-            (reader_at m.renewal y'.user.value.floor) r.outcomes.attempts a.added (shown_of w.slot).kept left.kept)
+            (reader_at m.renewal y'.user.value.floor) r.outcomes.attempts a.added k.kept.aborts
+            (shown_of w.slot).kept left.kept)
             h.manager_is
             (kept_added y.shared.renewal y.user.value y'.user.value r.outcomes.attempts a.added (shown_of w.slot).kept
             left.kept a.records k.attempts k.kept));
@@ -202,6 +213,8 @@ module _ {W D : Type 0} (leads : D → ℕ → D → Type 0) (shown_of : W → S
     later : AreLater opener.shared.renewal floor shares
     merges : (l : List Record) → all_merged records_of l rs ≡ all_merged
         (λ (x : Share (SlotShown D)). x.records) l shares
+    listed : (l : List Aborted) → AllWithin (λ r. all_aborted r.caller.user.value) rs l →
+        AllWithin (λ (x : Share (SlotShown D)). x.aborts) shares l
     tallies : added_up tally_of rs ≡ added_up (λ (x : Share (SlotShown D)). x.outcomes) shares
     made : sum_of attempts_of rs ≡ sum_of (λ (x : Share (SlotShown D)). x.attempts) shares
 
@@ -213,6 +226,7 @@ module _ {W D : Type 0} (leads : D → ℕ → D → Type 0) (shown_of : W → S
     left_are = none;
     later = tt;
     merges = λ l. refl;
+    listed = λ l h. tt;
     tallies = refl;
     made = refl;
   }
@@ -223,6 +237,7 @@ module _ {W D : Type 0} (leads : D → ℕ → D → Type 0) (shown_of : W → S
         shares = record {
           records = d.added;
           attempts = attempts_of r;
+          aborts = d.aborts;
           outcomes = tally_of r;
           left = shown_of r.slot;
         } ∷ more.shares;
@@ -231,6 +246,7 @@ module _ {W D : Type 0} (leads : D → ℕ → D → Type 0) (shown_of : W → S
         later = ((d.sorted, d.later), more.later);
         merges = λ l. ap (λ (m : List Record). all_merged records_of (merged l m) rs) d.records_are
             ∙ more.merges (merged l d.added);
+        listed = λ l q. (λ b i. q.0 b (d.listed b i), more.listed l q.1);
         tallies = ap (λ (t : Outcomes). plus (tally_of r) t) more.tallies;
         made = ap (λ (n : ℕ). attempts_of r + n) more.made;
       }
@@ -276,15 +292,17 @@ module _ {W D : Type 0} (leads : D → ℕ → D → Type 0) (shown_of : W → S
       Gathered records_of tally_of done.first done.others.items after.records t →
       Paired (λ r p. p ≡ r.slot) (done.first ∷ done.others.items) left →
       n ≡ sum_of attempts_of (done.first ∷ done.others.items) →
+      AllWithin (λ r. all_aborted r.caller.user.value) (done.first ∷ done.others.items) (all_aborted after) →
       RanAll leads s shown_of s.tasks opener.shared.renewal opener.shared.renewal opener.user.value.records slots
-      after.records left t n
-  ran_all slots left crew done after t n ready h k g lefts counted =
+      after.records left t n (all_aborted opener.user.value) (all_aborted after)
+  ran_all slots left crew done after t n ready h k g lefts counted aborted =
       let r = round slots crew done after.records t ready h k g in
       let d = r.mine in
       let more = r.more in
       let mine : Share (SlotShown D) = record {
         records = d.added;
         attempts = attempts_of done.first;
+        aborts = d.aborts;
         outcomes = tally_of done.first;
         left = shown_of done.first.slot;
       } in
@@ -312,6 +330,10 @@ module _ {W D : Type 0} (leads : D → ℕ → D → Type 0) (shown_of : W → S
         each_once = within opener.shared.renewal opener.user.value.floor d.added more.shares d.sorted more.later;
         tallies = g.tallies ∙ ap (λ (u : Outcomes). plus (tally_of done.first) u) more.tallies;
         made = counted ∙ ap (λ (m : ℕ). attempts_of done.first + m) more.made;
+        stays = λ b i. aborted.0 b (subst (λ (l : List Aborted). In b l) (sym k.first.kept.listed)
+            (append_left (all_aborted crew.first.caller.user.value) k.first.kept.aborts b
+            (subst (λ (l : List Aborted). In b l) (sym h.aborted) i)));
+        listed = (λ b i. aborted.0 b (d.listed b i), more.listed (all_aborted after) aborted.1);
         alone = λ one. (
             let first = k.first.looped.alone (grants one) in
             let busy : t.busy ≡ (tally_of done.first).busy + sum_of (λ r. (tally_of r).busy) done.others.items =

@@ -1,7 +1,7 @@
 -- A manager with its one client between two rounds.
 use Rattle.std.specs.Prelude.{◌≡◌, ◌≤◌, ◌<◌, ◌+◌, ◌*◌, ◌++◌, ℕ, List}
 use Rattle.tx_memory.specs.Image.{In}
-use Rattle.stm_core.specs.Client.{Record}
+use Rattle.stm_core.specs.Client.{Record, all_aborted}
 use Rattle.stm_region.specs.Shown.{RegionShown}
 use Rattle.vac_manager.specs.Called.{ClientShown, HasAllGrants, CallerShown}
 use Rattle.stm_object.specs.Callers.{IsOwn}
@@ -38,12 +38,13 @@ pub record IsReadyForRound (s : Settings) (y : CallerShown) : Type 0 where
   pub known : AreKnown y.shared.renewal y.user.value.floor y.user.value.records
   pub early : y.user.value.floor ≤ 4 * s.items
 
--- the manager was renewed with the records of its solo client, and the next round can begin; the
--- words of its first opening are the same
+-- the manager was renewed with the records and the aborted attempts of its solo client, and the
+-- next round can begin; the words of its first opening are the same
 pub record IsRenewed (s : Settings) (y y' : CallerShown) : Type 0 where
   pub renewal : y'.shared.renewal ≡ y.shared.renewal + 1
   pub size : y'.shared.size ≡ y.shared.size
   pub first : y'.shared.first ≡ y.shared.first
   pub records : y'.user.value.records ≡ y.user.value.records
+  pub aborted : all_aborted y'.user.value ≡ all_aborted y.user.value
   pub alone : IsAloneInRenewal y'
   pub ready : IsReadyForRound s y'

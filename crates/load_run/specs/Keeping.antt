@@ -1,6 +1,6 @@
 -- The contents of the recorder of a client: calls and traces of attempts.
 use Rattle.std.specs.Prelude.{◌≡◌, ◌+◌, ℕ, List, ◌++◌, length, Option, Some}
-use Rattle.stm_core.specs.Client.{Client, Record}
+use Rattle.stm_core.specs.Client.{Client, Record, Aborted, all_aborted}
 use Rattle.stm_object.specs.Places.{reader_at}
 use Rattle.vac_manager.specs.declared.note.CompletedCall.{CompletedCall}
 use Rattle.vac_manager.specs.Keeping.{notes_behind, IsNoted}
@@ -25,49 +25,53 @@ contents calls traces keep = record { calls = calls keep; traces = traces keep }
 -- this number of attempts, in turn, and they were added after the others, except committed ones
 -- that were taken out
 pub record HasTracedAll (first last : CommitPosition) (attempts : ℕ) (calls : List CompletedCall)
-    (records : List Record) (before : Option (List Trace)) (all : List Trace) : Type 0 where
+    (records : List Record) (aborts : List Aborted) (before : Option (List Trace))
+    (all : List Trace) : Type 0 where
   pub earlier : List Trace
   pub before_is : before ≡ Some earlier
   pub left : List Trace
   pub all_are : all ≡ earlier ++ left
   pub made : List Trace
   pub number : length made ≡ attempts
-  pub are_made : AreMade first last calls records made
+  pub are_made : AreMade first last calls records aborts made
   pub are_left : AreLeft made left
 
 -- each attempt of a client was traced, once and in turn; nothing is said if the traces are not
 -- known afterwards
 abbrev pub AddsTraces : CommitPosition → CommitPosition → ℕ → List CompletedCall → List Record
-    → Option (List Trace) → Option (List Trace) → Type 0
-AddsTraces first last attempts calls records before after = (all : List Trace) →
-    after ≡ Some all → HasTracedAll first last attempts calls records before all
+    → List Aborted → Option (List Trace) → Option (List Trace) → Type 0
+AddsTraces first last attempts calls records aborts before after = (all : List Trace) →
+    after ≡ Some all → HasTracedAll first last attempts calls records aborts before all
 
 -- the recorded calls after are those before, followed by the calls of exactly these records, one
 -- call for each record, in their order; and this number of attempts, from the first position to
--- the last one, was traced, each attempt once
+-- the last one, was traced, each attempt once, of which these aborted
 pub record AreKeptBetween (first last : CommitPosition) (attempts : ℕ) (records : List Record)
-    (before after : RecorderContents) : Type 0 where
+    (aborts : List Aborted) (before after : RecorderContents) : Type 0 where
   pub notes : List CompletedCall
   pub are_of : Paired IsNoted notes records
   pub kept : after.calls ≡ notes_behind before.calls notes
-  pub traced : AddsTraces first last attempts notes records before.traces after.traces
+  pub traced : AddsTraces first last attempts notes records aborts before.traces after.traces
 
 -- a recorder kept the calls of exactly these records and this number of attempts, in turn, from
--- some position to another one
-pub record AreKept (attempts : ℕ) (records : List Record) (before after : RecorderContents)
-    : Type 0 where
+-- some position to another one, of which these aborted
+pub record AreKept (attempts : ℕ) (records : List Record) (aborts : List Aborted)
+    (before after : RecorderContents) : Type 0 where
   pub first : CommitPosition
   pub last : CommitPosition
-  pub between : AreKeptBetween first last attempts records before after
+  pub between : AreKeptBetween first last attempts records aborts before after
 
 -- the recorder appended the calls of exactly the records that its client added in the meantime, and
 -- the traces of exactly the attempts that the client made in the meantime: each attempt once, in
--- this renewal, and none before the version that the client knew
+-- this renewal, and none before the version that the client knew. Those that aborted are listed
+-- behind the client's earlier aborted attempts
 pub record HasKeptAdded (renewal : ℕ) (v v' : Client) (before after : RecorderContents)
     : Type 0 where
   pub added : List Record
   pub records : v'.records ≡ v.records ++ added
   pub attempts : ℕ
   pub number : v.attempt.number + attempts ≡ v'.attempt.number
+  pub aborts : List Aborted
+  pub listed : all_aborted v' ≡ all_aborted v ++ aborts
   pub kept : AreKeptBetween (reader_at renewal v.floor) (reader_at renewal v'.floor) attempts added
-      before after
+      aborts before after

@@ -2,9 +2,10 @@
 use Rattle.std.specs.Prelude.{◌≡◌, ◌≤◌, ◌<◌, ◌+◌, ◌*◌, ◌⊎◌, ◌++◌, ◌&&◌, nat_eq, Bool, ℕ, List, [], ◌∷◌, length}
 use Rattle.std.specs.Prelude.{All, vec_len, Result, IfOk, IfErr}
 use Rattle.vac_model.specs.declared.tasks.Task.{Task}
-use Rattle.stm_core.specs.Client.{Client, Record, merged}
+use Rattle.tx_memory.specs.Image.{In, Agrees}
+use Rattle.stm_core.specs.Client.{Client, Record, Aborted, all_aborted, merged}
 use Rattle.stm_core.specs.declared.limits.TheConstants.{MOST_GRANTS}
-use Rattle.stm_core.specs.History.{Sub, Serial}
+use Rattle.stm_core.specs.History.{Sub, Serial, image_upto}
 use Rattle.stm_core.specs.Invariant.{Sorted}
 use Rattle.stm_region.specs.Shown.{RegionShown}
 use Rattle.tx_alloc.specs.Spread.{IsSpreadHeap}
@@ -25,7 +26,7 @@ use Rattle.load_run.specs.Alone.{IsAloneInRenewal, caller_of}
 use Rattle.load_run.specs.Attempted.{TaskCountsShown, uncounted}
 use Rattle.load_run.specs.Looping.{Looped, Clocked, AreOfTasks, total, least_attempts}
 use Rattle.load_run.specs.Lists.{Paired}
-use Rattle.load_run.specs.Several.{Interleaved, AllKept, sum_of, added_up}
+use Rattle.load_run.specs.Several.{Interleaved, AllKept, Within, AllWithin, sum_of, added_up}
 use Rattle.load_run.specs.Keeping.{RecorderContents, AreKept, AreKeptBetween, HasKeptAdded}
 use Rattle.load_run.specs.Slots.{SlotShown}
 use Rattle.load_run.specs.Opening.{as_tasks, RanDrawn, Stopped, IsAnswered}
@@ -123,6 +124,7 @@ pub record IsCrew {W : Type 0} (opener : CallerShown) (tries : ℕ) (slots : Lis
   pub grants : crew.first.caller.user.value.grants + vec_len crew.others ≡ MOST_GRANTS
   pub others_grants : All (λ w. w.caller.user.value.grants ≡ 0) crew.others.items
   pub outcomes : crew.first.outcomes ≡ uncounted tries
+  pub aborted : all_aborted crew.first.caller.user.value ≡ all_aborted opener.user.value
   pub others_tallies : All (λ w. w.outcomes ≡ uncounted tries) crew.others.items
 
 -- the first worker can gather this one: it calls the same manager, it has no grants,
@@ -141,10 +143,13 @@ pub record CanGather {W : Type 0} (crew : Crew W) : Type 0 where
   pub others : All (IsMember crew.first) crew.others.items
 
 -- the results of one client in one round or several: the records of its completed tasks, the
--- number of its attempts, the counts of its tasks, and the state after its draws
+-- number of its attempts, the aborted attempts of its traces, the counts of its tasks, and the
+-- state after its draws
+-- Not said: anything of the aborted attempts if the traces are not known.
 pub record Share (D : Type 0) : Type 0 where
   pub records : List Record
   pub attempts : ℕ
+  pub aborts : List Aborted
   pub outcomes : Outcomes
   pub left : D
 
@@ -167,6 +172,7 @@ abbrev pub drawn_share : {D : Type 0} → Share (SlotShown D) → Share D
 drawn_share x = record {
   records = x.records;
   attempts = x.attempts;
+  aborts = x.aborts;
   outcomes = x.outcomes;
   left = x.left.draws;
 }
@@ -180,17 +186,18 @@ pub record HasKeptShare {D : Type 0} (leads : D → ℕ → D → Type 0) (s : S
   pub low : ℕ
   pub high : ℕ
   pub kept : AreKeptBetween (reader_at from low) (reader_at to high) x.attempts x.records
-      state.kept x.left.kept
+      x.aborts state.kept x.left.kept
 
 -- all clients ran n tasks each, in one round or several, in renewals `from` to `to`, and were
--- gathered: exactly the records of
--- the completed tasks come after the earlier records, those of each client in their order, and the
--- slot of each client is as its tasks left it. The number of attempts is the sum of those of the
--- clients. A single client meets no conflict, and if the clock
+-- gathered: exactly the records of the completed tasks come after the earlier records, those of
+-- each client in their order, and the slot of each client is as its tasks left it. The number of
+-- attempts is the sum of those of the clients. Each aborted attempt of their traces, and each of
+-- the earlier ones, is one of the later ones. A single client meets no conflict, and if the clock
 -- has time, none of its tasks finds the clock spent
 pub record RanAll {D P : Type 0} (leads : D → ℕ → D → Type 0) (s : Settings)
     (shown_of : P → SlotShown D) (n from to : ℕ) (before : List Record) (slots : List P)
-    (after : List Record) (left : List P) (t : Outcomes) (attempts : ℕ) : Type 0 where
+    (after : List Record) (left : List P) (t : Outcomes) (attempts : ℕ)
+    (earlier later : List Aborted) : Type 0 where
   pub shares : List (Share (SlotShown D))
   pub each : Paired (λ p x. HasKeptShare leads s n from to (shown_of p) x) slots shares
   pub left_are : Paired (λ x p. shown_of p ≡ x.left) shares left
@@ -199,6 +206,8 @@ pub record RanAll {D P : Type 0} (leads : D → ℕ → D → Type 0) (s : Setti
   pub each_once : InterleavedAll (λ x. x.records) shares rest
   pub tallies : t ≡ added_up (λ x. x.outcomes) shares
   pub made : attempts ≡ sum_of (λ x. x.attempts) shares
+  pub stays : Within earlier later
+  pub listed : AllWithin (λ x. x.aborts) shares later
   pub alone : length slots ≡ 1 → t.busy ≡ 0
   pub in_time : length slots ≡ 1 → HasTime s → t.spent ≡ 0
 
@@ -209,6 +218,7 @@ abbrev pub RoundHasRun : {W D : Type 0} → (D → ℕ → D → Type 0) → (W 
 RoundHasRun leads shown_of s n y slots r =
     RanAll leads s shown_of n y.shared.renewal r.manager.renewal y.user.value.records slots
     r.client.value.records r.slots.items r.outcomes.outcomes r.outcomes.attempts
+    (all_aborted y.user.value) (all_aborted r.client.value)
 
 -- a round of a load with these settings has a slot for each client, the limit on attempts of the
 -- settings, and a solo client
@@ -333,11 +343,19 @@ pub record HasLoaded {D P : Type 0} (leads : D → ℕ → D → Type 0) (s : Se
   pub alone : s.clients ≡ 1 → t.busy ≡ 0
   pub in_time : s.clients ≡ 1 → HasTime s → t.spent ≡ 0
 
+-- all words that each of these aborted attempts has read are in the image of the attempt's read
+-- version in the history
+abbrev pub HaveRead : List ℕ → List Record → List Aborted → Type 0
+HaveRead image history aborts = (a : Aborted) → In a aborts →
+    Agrees (image_upto image a.renewal a.version history) a.reads
+
 -- a load with recorders of completed calls: the recorder of the setup phase kept the calls of the
 -- setup phase, and the recorder of each client those of its client's tasks, each call once, in the
 -- order of its records. A recorder whose traces are known has each attempt of its client, once, and
--- in turn, and those of aborted attempts stay in the recorder. The attempts of all clients together
--- are as many as the attempt statistics count
+-- in turn, and those of aborted attempts stay in the recorder. All words that such an aborted
+-- attempt has read are in the image of its read version in the load's history. The attempts of all
+-- clients together are as many as the attempt statistics count
+-- Not said: anything of aborted attempts if the traces are not known.
 -- Not said: which calls the recorders keep if a load is refused; that a lack of room for a call
 -- can be told from other refusals of memory.
 -- Not said: that a recorder is asked for room before its call begins, and receives the call before
@@ -347,6 +365,11 @@ pub record LoadedKept {D P : Type 0} (leads : D → ℕ → D → Type 0) (s : S
     (before after : RecorderContents) (befores afters : List RecorderContents) : Type 0 where
   pub loaded : HasLoaded leads s draws_of state pairs t r
   pub setup_attempts : ℕ
-  pub opening_kept : AreKept setup_attempts loaded.opened before after
+  pub opening_aborts : List Aborted
+  pub opening_kept : AreKept setup_attempts loaded.opened opening_aborts before after
+  pub opening_read : HaveRead loaded.image loaded.history opening_aborts
   pub made : attempts ≡ sum_of (λ x. x.attempts) loaded.shares
-  pub clients_kept : AllKept (λ x. x.attempts) (λ x. x.records) loaded.shares befores afters
+  pub clients_kept : AllKept (λ x. x.attempts) (λ x. x.records) (λ x. x.aborts) loaded.shares
+      befores afters
+  pub clients_read : (x : Share D) → In x loaded.shares
+      → HaveRead loaded.image loaded.history x.aborts

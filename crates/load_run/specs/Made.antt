@@ -4,11 +4,12 @@ use Rattle.std.specs.List.{All}
 use Rattle.std.specs.FinMap.{empty}
 use Rattle.tx_memory.specs.Pairs.{map_of}
 use Rattle.tx_memory.specs.Accesses.{reads_behind, are_right}
-use Rattle.stm_core.specs.Client.{Record}
+use Rattle.stm_core.specs.Client.{Record, Aborted}
 use Rattle.stm_core.specs.History.{Sub}
 use Rattle.stm_region.specs.Findings.{StandsOn}
 use Rattle.vac_manager.specs.declared.note.CompletedCall.{CompletedCall}
 use Rattle.vac_manager.specs.Law.{IsFitting}
+use Rattle.stm_object.specs.Places.{reader_at}
 use Rattle.vac_manager.specs.Placed.{CommitPosition}
 use Rattle.vac_manager.specs.Tracing.{Trace, trace_of, IsTraceOf}
 use Rattle.load_run.specs.Lists.{Paired}
@@ -53,18 +54,30 @@ AreAscending first (t ∷ ts) last = IsNotAfter first t.place × AreAscending t.
 abbrev pub IsNotedWith : CompletedCall → Trace → Type 0
 IsNotedWith n t = IfSome n.attempt (λ a. trace_of a.value ≡ t)
 
+-- the trace is that of this aborted attempt: it has the position of a reader at the attempt's
+-- renewal and read version, its reads of words before it wrote them are the attempt's reads, and
+-- each of its reads gives what the attempt wrote or read at the address before
+-- Not said: anything of its writes.
+pub record IsTraceOfListed (t : Trace) (a : Aborted) : Type 0 where
+  pub place : t.place ≡ reader_at a.renewal a.version
+  pub reads : map_of a.reads ≡ reads_behind empty empty t.accesses
+  pub right : are_right empty empty t.accesses ≡ true
+
 -- a client made the attempts with these traces, one after the other, in the order of the list. The
 -- committed ones made these records, one attempt for each record, in their order, and are the
--- attempts of these calls. Each aborted one read one image
+-- attempts of these calls. The aborted ones are these aborted attempts, in their order, and each
+-- read one image
 pub record AreMade (first last : CommitPosition) (calls : List CompletedCall)
-    (records : List Record) (made : List Trace) : Type 0 where
+    (records : List Record) (aborts : List Aborted) (made : List Trace) : Type 0 where
   pub ascending : AreAscending first made last
   pub of_records : Paired IsTraceOf (committed_in made) records
   pub of_calls : Paired IsNotedWith calls (committed_in made)
+  pub listed : Paired IsTraceOfListed (aborted_in made) aborts
   pub aborted : All ReadsOneImageIfAborted made
 
 -- of the attempts that were made, these stay in the recorder, in their order: all aborted ones,
--- each once, and those committed ones that were not taken out
+-- each once, and some of the committed ones
+-- Not said: which of the committed ones.
 pub record AreLeft (made left : List Trace) : Type 0 where
   pub among : Sub left made
   pub aborted : aborted_in left ≡ aborted_in made

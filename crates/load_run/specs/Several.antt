@@ -1,6 +1,7 @@
 -- The combined results of several clients: records, contents of recorders and counts.
 use Rattle.std.specs.Prelude.{ℕ, ◌+◌, List, [], ◌∷◌}
-use Rattle.stm_core.specs.Client.{Record}
+use Rattle.tx_memory.specs.Image.{In}
+use Rattle.stm_core.specs.Client.{Record, Aborted}
 use Rattle.load_run.specs.declared.outcomes.Outcomes.{Outcomes}
 use Rattle.load_run.specs.Keeping.{RecorderContents, AreKept}
 
@@ -15,11 +16,22 @@ pub data Interleaved {A : Type 0} : List A → List A → List A → Type 0 wher
 -- for each element, the recorder at the same position appended the calls of exactly the element's
 -- records, and the traces of the element's attempts
 pub data AllKept {X : Type 0} (attempts_of : X → ℕ) (records_of : X → List Record)
+    (aborts_of : X → List Aborted)
     : List X → List RecorderContents → List RecorderContents → Type 0 where
-  none_kept : AllKept attempts_of records_of [] [] []
+  none_kept : AllKept attempts_of records_of aborts_of [] [] []
   one_kept : {x : X} {k k' : RecorderContents} {xs : List X} {ks ks' : List RecorderContents} →
-      AreKept (attempts_of x) (records_of x) k k' → AllKept attempts_of records_of xs ks ks' →
-      AllKept attempts_of records_of (x ∷ xs) (k ∷ ks) (k' ∷ ks')
+      AreKept (attempts_of x) (records_of x) (aborts_of x) k k' →
+      AllKept attempts_of records_of aborts_of xs ks ks' →
+      AllKept attempts_of records_of aborts_of (x ∷ xs) (k ∷ ks) (k' ∷ ks')
+
+-- each aborted attempt of the first list is in the second
+abbrev pub Within : List Aborted → List Aborted → Type 0
+Within aborts all = (a : Aborted) → In a aborts → In a all
+
+-- each aborted attempt of each element is in the list
+abbrev pub AllWithin : {X : Type 0} → (X → List Aborted) → List X → List Aborted → Type 0
+AllWithin aborts_of [] all = Unit {0}
+AllWithin aborts_of (x ∷ xs) all = Within (aborts_of x) all × AllWithin aborts_of xs all
 
 -- the sum of f over the elements
 abbrev pub sum_of : {X : Type 0} → (X → ℕ) → List X → ℕ

@@ -1,12 +1,13 @@
 //! Callers that are split off for a round and gathered after it.
 
 ghost use Rattle.std.specs.Prelude.{◌≡◌, ◌≤◌, ◌<◌, ◌+◌, ◌∷◌, [], vec_len, vec_capacity, IfOk, IfErr};
+ghost use Rattle.stm_core.specs.Client.{all_aborted};
 ghost use Rattle.vac_manager.specs.Called.{HasAllGrants};
 ghost use Rattle.vac_model.specs.declared.limits.TheConstants.{MOST_TRIES};
 ghost use Rattle.load_tasks.specs.declared.settings.TheConstants.{MOST_CLIENTS};
 ghost use Rattle.load_run.specs.Lists.{Paired};
 ghost use Rattle.load_run.specs.Load.{Gathered, CanGather, IsCrew};
-ghost use Rattle.load_run.specs.Several.{sum_of};
+ghost use Rattle.load_run.specs.Several.{AllWithin, sum_of};
 
 use crate::TaskCounts;
 use crate::load::LoadFault;
@@ -34,6 +35,8 @@ pub(crate) fn gather_all<W: Drop>(
         ≡ sum_of (λ w. w.outcomes.attempts) (crew.entry.first ∷ crew.entry.others.items) }
     ensures slots { Paired (λ w slot. slot ≡ w.slot)
         (crew.entry.first ∷ crew.entry.others.items) result.1.items }
+    ensures aborted { AllWithin (λ w. all_aborted w.caller.user.value)
+        (crew.entry.first ∷ crew.entry.others.items) (all_aborted result.0.value) }
 {
     let Crew { first, others } = crew;
     let Worker {

@@ -2,6 +2,7 @@
 
 ghost use Rattle.std.specs.Prelude.{◌≡◌, ◌↔◌, ◌⊎◌, true, false, map, vec_len};
 ghost use Rattle.std.specs.Prelude.{IfOk, IfErr, IsErrOf};
+ghost use Rattle.stm_core.specs.Client.{all_aborted};
 ghost use Rattle.load_tasks.specs.Setting.{is_settings};
 ghost use Rattle.load_run.specs.Keeping.{AreKept, contents};
 ghost use Rattle.load_run.specs.Attempted.{AreStatistics};
@@ -61,6 +62,7 @@ fn open_load<D: Draws, K: Recorder>(
         (caller_of r.0 r.1)) }
     ensures alone { IfOk result (λ r. IsAloneInRenewal (caller_of r.0 r.1)) }
     ensures kept { IfOk result (λ r. AreKept r.1.value.attempt.number r.1.value.records
+        (all_aborted r.1.value)
         (contents K.notes K.traced keep.old) (contents K.notes K.traced keep.new)) }
     ensures stopped { IfErr result (λ fault.
         IsStopOfLoad D.leads settings.now opening.old opening.new fault) }

@@ -14,6 +14,7 @@ apart v = record v {
     rv = v.attempt.rv;
     reads = v.attempt.reads;
     lone = v.attempt.lone;
+    renewal = v.attempt.renewal;
     began_at = v.attempt.began_at;
   };
 }
@@ -27,6 +28,9 @@ same_attempt v v' e = record {
   reads = ap (λ (x : Client). x.attempt.reads) e;
   lone = ap (λ (x : Client). x.attempt.lone) e;
   began_at = ap (λ (x : Client). x.attempt.began_at) e;
+  renewal = ap (λ (x : Client). x.attempt.renewal) e;
+  aborted_before = ap (λ (x : Client). x.aborted_before) e;
+  aborted = ap (λ (x : Client). x.aborted) e;
 }
 
 pub same_on : (v w u : Client) → IsSameAttempt v w → IsSameAttempt w u → IsSameAttempt v u
@@ -38,4 +42,7 @@ same_on v w u a b = record {
   reads = b.reads ∙ a.reads;
   lone = b.lone ∙ a.lone;
   began_at = b.began_at ∙ a.began_at;
+  renewal = b.renewal ∙ a.renewal;
+  aborted_before = b.aborted_before ∙ a.aborted_before;
+  aborted = b.aborted ∙ a.aborted;
 }

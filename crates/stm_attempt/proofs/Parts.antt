@@ -11,6 +11,7 @@ use lib.ListN.{get_elem?}
 use Rattle.tx_memory.specs.Image.{In}
 use Rattle.stm_core.specs.declared.limits.TheConstants.{MOST_TICKS}
 use Rattle.stm_core.specs.Client.{Client, Record, RecordLaw, inserted, committed, running, is_committed, decided}
+use Rattle.stm_core.specs.Client.{is_settled}
 use Rattle.stm_core.specs.Event.{Action, is_empty, after, finish, decision, writer_record, reader_record}
 use Rattle.stm_logs.specs.Log.{LogValue, SameAddresses, log_pairs, log_locks}
 use Rattle.stm_logs.proofs.LockLemmas.{locks_few, in_locks}
@@ -27,7 +28,7 @@ use Rattle.stm_attempt.specs.Committing.{IsCommitStop, IsCounted, GaveBack, HasC
 use Rattle.stm_attempt.specs.Committing.{IsCommitResult, WasDecided}
 use Rattle.stm_attempt.specs.CommitParts.{IsReady, CanValidate, returned, is_at_once, HasFailed, HasTaken, IsClimbing}
 use Rattle.stm_attempt.specs.CommitParts.{HasFailedLocking, HasFailedDeciding, HasFailedTicking, HasTicked}
-use Rattle.stm_attempt.specs.CommitParts.{HasFailedValidating}
+use Rattle.stm_attempt.specs.CommitParts.{HasFailedValidating, MayGiveBack}
 use Rattle.stm_attempt.specs.CommitParts.{HasValidated, IsDecided, HasSettled}
 use Rattle.stm_attempt.proofs.Named.{apart, same_attempt, same_on}
 use Rattle.stm_attempt.specs.declared.conflict.Conflict.{Conflict}
@@ -417,6 +418,7 @@ module _ (region : RegionShown) (tag : List ℕ) (writes : List (ℕ × ℕ)) (v
         (ap (λ (x : Client). x.attempt.rv) locked) decided.later);
     known = ap (λ (x : Client). x.floor) settled.same ∙ decided.known;
     free = settled.free;
+    settled = ap is_settled (ap (λ (x : Client). x.attempt.phase) settled.same ∙ decided.phase);
     same = same_on v l e (same_attempt v l (ap apart locked))
         (same_on l d e decided.same (same_attempt d e (ap apart settled.same)));
     steps = λ none. absurd (some none);
@@ -519,17 +521,22 @@ some_locks w some same =
     ⊎_elim (λ none. absurd (some_none first.0.1 (sym there ∙ (same a).1 none)))
     (λ p. some_among p.0 (log_locks w) (in_locks w a p.0 p.1)) (lock_or (get w.locks a))
 
+-- a client that may give back locks has not decided its attempt
+still_unsettled : (v : Client) → MayGiveBack v → is_settled v.attempt.phase ≡ false
+still_unsettled v able = ⊎_elim (λ e. ap is_settled e) (λ e. ap is_settled e) able.1
+
 module _ (region : RegionShown) (log : LogValue) (v l : Client) (some : log_pairs log ≢ []) where
   -- a lock was not taken, and all others were given back
   pub stopped_locking : (c : Conflict) (g : Client) (taken : ℕ) → HasFailedLocking v l taken →
-      IsCommitConflict (stripe_of region.stripes) log c l → returned g ≡ returned l → g.attempt.held ≡ [] →
-      HasStopped region log (Conflicting c) v g
-  stopped_locking c g taken failed shown back free = record {
+      IsCommitConflict (stripe_of region.stripes) log c l → returned g ≡ returned l → MayGiveBack g →
+      g.attempt.held ≡ [] → HasStopped region log (Conflicting c) v g
+  stopped_locking c g taken failed shown back able free = record {
     written = some;
     shown = conflict_kept (stripe_of region.stripes) log c l g back shown;
     gave_back = tt;
     counted = tt;
     free = free;
+    unsettled = still_unsettled g able;
     floor = let a : g.floor ≡ l.floor = ap (λ (x : Client). x.floor) back in omega (arith, a, failed.floor);
     same = same_on v l g failed.same (same_attempt l g (ap apart back));
     records = ap (λ (x : Client). x.records) back ∙ failed.records;
@@ -539,13 +546,14 @@ module _ (region : RegionShown) (log : LogValue) (v l : Client) (some : log_pair
   pub stopped_deciding : (stop : Stop) (f g : Client) → settling l ≡ settling v →
       l.attempt.steps ≡ v.attempt.steps + 2 * length (log_locks log) → HasFailedDeciding region log stop l f →
       returned g ≡ returned f → g.attempt.steps ≡ f.attempt.steps + length (log_locks log) →
-      g.attempt.gave_back ≡ true → g.attempt.held ≡ [] → HasStopped region log stop v g
-  stopped_deciding stop f g locked up failed back down gave free = record {
+      g.attempt.gave_back ≡ true → MayGiveBack g → g.attempt.held ≡ [] → HasStopped region log stop v g
+  stopped_deciding stop f g locked up failed back down gave able free = record {
     gave_back = gave_back_at stop g gave;
     written = some;
     shown = stop_kept region log stop f g back failed.shown;
     counted = counted_kept stop (length (log_locks log)) v l f g up back down failed.counted;
     free = free;
+    unsettled = still_unsettled g able;
     floor = let a : g.floor ≡ f.floor = ap (λ (x : Client). x.floor) back in let b : l.floor ≡ v.floor =
         ap (λ (x : Client). x.floor) locked in omega (arith, a, b, failed.floor);
     same = same_on v l g (same_attempt v l (ap apart locked))
@@ -562,6 +570,7 @@ has_finished region tag [] v e rv found none begun is = record {
   versioned = sym begun.begun_at;
   known = ap (λ (x : Client). x.floor) is ∙ begun.known;
   free = ap (λ (x : Client). x.attempt.held) is ∙ begun.free;
+  settled = ap (λ (x : Client). is_settled x.attempt.phase) is;
   same = same_attempt v e (ap apart is);
   steps = λ _. ap (λ (x : Client). x.attempt.steps) is;
 }

@@ -3,7 +3,7 @@ use Rattle.std.specs.Prelude.{◌≡◌, ◌==◌, ℕ, ◌+◌, ◌*◌, ◌^�
 use Rattle.std.specs.FinMap.{get}
 use Rattle.tx_memory.specs.Image.{In}
 use Rattle.stm_core.specs.LockWord.{free_word}
-use Rattle.stm_core.specs.Client.{Client, Phase, idle, running, ending, committed, finished, Step, nothing, began, probed, fetched, checked, locked, ticked, validated, ended}
+use Rattle.stm_core.specs.Client.{Client, Phase, is_settled, idle, running, ending, committed, finished, Step, nothing, began, probed, fetched, checked, locked, ticked, validated, ended}
 use Rattle.stm_core.specs.Event.{forgetting}
 use Rattle.stm_logs.specs.Log.{LogValue}
 use Rattle.stm_logs.specs.Marks.{is_marked}
@@ -109,6 +109,7 @@ pub record IsRunning (region : RegionShown) (v : Client) (rv : ℕ)
     (stopped : Option Conflict) : Type 0 where
   pub begun : IsBegun v rv
   pub runs : stopped ≡ None → v.attempt.phase ≡ running
+  pub unsettled : is_settled v.attempt.phase ≡ false
   pub shown : HasMet (stripe_of region.stripes) stopped v
   pub quiet : stopped ≡ None → IsQuiet v
   pub lone : IsUnstopped v stopped

@@ -1,7 +1,7 @@
 -- The effects of a commit.
-use Rattle.std.specs.Prelude.{◌≡◌, ◌≢◌, ◌⊎◌, ℕ, ◌+◌, ◌*◌, ◌<◌, ◌≤◌, true, List, [], ◌∷◌, length, Result, IfOk, IfErr, MatchResult}
+use Rattle.std.specs.Prelude.{◌≡◌, ◌≢◌, ◌⊎◌, ℕ, ◌+◌, ◌*◌, ◌<◌, ◌≤◌, true, false, List, [], ◌∷◌, length, Result, IfOk, IfErr, MatchResult}
 use Rattle.stm_core.specs.declared.limits.TheConstants.{MOST_TICKS}
-use Rattle.stm_core.specs.Client.{Client, Record, locked, ticked, inserted, RecordLaw}
+use Rattle.stm_core.specs.Client.{Client, Record, is_settled, locked, ticked, inserted, RecordLaw}
 use Rattle.stm_core.specs.Event.{forgetting, versioned, writer_record, reader_record}
 use Rattle.stm_logs.specs.Log.{LogValue, log_pairs, log_locks}
 use Rattle.stm_region.specs.Shown.{RegionShown, unplaced}
@@ -12,7 +12,8 @@ use Rattle.stm_attempt.specs.Answers.{IsSpentStop}
 use Rattle.stm_attempt.specs.declared.conflict.Stop.{Stop}
 use Rattle.stm_attempt.specs.declared.conflict.Stop.TheVariants.{Memory, Spent, Conflict as Conflicting}
 
--- both values show the same attempt of the same client, with the same reads
+-- both values show the same attempt of the same client, with the same reads, and the same aborted
+-- attempts before it
 pub record IsSameAttempt (v v' : Client) : Type 0 where
   pub grants : v'.grants ≡ v.grants
   pub is_gathered : v'.is_gathered ≡ v.is_gathered
@@ -21,6 +22,9 @@ pub record IsSameAttempt (v v' : Client) : Type 0 where
   pub reads : v'.attempt.reads ≡ v.attempt.reads
   pub lone : v'.attempt.lone ≡ v.attempt.lone
   pub began_at : v'.attempt.began_at ≡ v.attempt.began_at
+  pub renewal : v'.attempt.renewal ≡ v.attempt.renewal
+  pub aborted_before : v'.aborted_before ≡ v.aborted_before
+  pub aborted : v'.aborted ≡ v.aborted
 
 -- the client's value without its last step, the addresses it has stored, the locks it holds and
 -- the number of its steps
@@ -98,6 +102,7 @@ pub record HasCommitted (region : RegionShown) (tag : List ℕ) (writes : List (
   pub versioned : IsCommitVersion v writes version
   pub known : v'.floor ≡ version
   pub free : v'.attempt.held ≡ []
+  pub settled : is_settled v'.attempt.phase ≡ true
   pub same : IsSameAttempt v v'
   -- a commit without writes is one step
   pub steps : writes ≡ [] → v'.attempt.steps ≡ v.attempt.steps + 1
@@ -113,6 +118,7 @@ pub record HasStopped (region : RegionShown) (log : LogValue) (stop : Stop)
   pub gave_back : GaveBack stop v'
   pub counted : IsCounted stop (v.attempt.steps + 3 * length (log_locks log)) v'
   pub free : v'.attempt.held ≡ []
+  pub unsettled : is_settled v'.attempt.phase ≡ false
   pub floor : v.floor ≤ v'.floor
   pub same : IsSameAttempt v v'
   pub records : v'.records ≡ v.records

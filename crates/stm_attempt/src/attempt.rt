@@ -1,6 +1,7 @@
 //! An attempt: one transaction of one client.
-ghost use Rattle.std.specs.Prelude.{◌≡◌, ◌≢◌, ◌↔◌, ℕ, ◌+◌, ◌*◌, ◌^◌, ◌<◌, ◌≤◌, None, Some, true};
+ghost use Rattle.std.specs.Prelude.{◌≡◌, ◌≢◌, ◌↔◌, ℕ, ◌+◌, ◌*◌, ◌^◌, ◌<◌, ◌≤◌, None, Some, true, false};
 ghost use Rattle.stm_core.specs.LockWord.{free_word};
+ghost use Rattle.stm_core.specs.Client.{is_settled};
 ghost use Rattle.stm_core.specs.Core.{IsFreeHanded};
 ghost use Rattle.stm_core.specs.Event.{begin as begins};
 ghost use Rattle.stm_region.specs.declared.limits.TheConstants.{MOST_GRANTS};
@@ -140,6 +141,7 @@ impl<'a, L: Law, R: Allocator, A: Allocator + Copy> Attempt<'a, L, R, A> {
         requires { runs self ≡ true }
         ensures client { client_left self.exit ≡ self.entry.client.now }
         ensures free_handed { IsFreeHanded (client_of self.entry) }
+        ensures unsettled { is_settled (client_of self.entry).attempt.phase ≡ false }
         ensures steps { (client_of self.entry).attempt.steps ≤ step_bound self.entry }
     {
         let Self {

@@ -90,6 +90,7 @@ pub(crate) fn give_back_first<L: Law, R: Allocator, A: Allocator + Copy>(
     requires few { count ≤ length (log_locks writes.now) }
     requires placed { IsPlaced region.now writes.now }
     ensures own { client.new.table ≡ client.old.table }
+    ensures able { MayGiveBack client.new.value }
     ensures free { client.new.value.attempt.held ≡ [] }
     ensures same { returned client.new.value ≡ returned client.old.value }
     ensures gave_back { 0 < count → client.new.value.attempt.gave_back ≡ true }

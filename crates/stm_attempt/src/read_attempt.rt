@@ -1,6 +1,7 @@
 //! A transaction that only reads.
-ghost use Rattle.std.specs.Prelude.{◌≡◌, ◌↔◌, ℕ, ◌*◌, ◌^◌, ◌<◌, ◌≤◌, [], length, None, Some, true};
+ghost use Rattle.std.specs.Prelude.{◌≡◌, ◌↔◌, ℕ, ◌*◌, ◌^◌, ◌<◌, ◌≤◌, [], length, None, Some, true, false};
 ghost use Rattle.stm_core.specs.LockWord.{free_word};
+ghost use Rattle.stm_core.specs.Client.{is_settled};
 ghost use Rattle.stm_core.specs.Core.{IsFreeHanded};
 ghost use Rattle.stm_core.specs.Event.{begin as begins, finish as finishes};
 ghost use Rattle.stm_region.specs.declared.limits.TheConstants.{MOST_GRANTS};
@@ -126,6 +127,7 @@ impl<'a, L: Law, R: Allocator> ReadAttempt<'a, L, R> {
         requires { runs self ≡ true }
         ensures client { client_left self.exit ≡ self.entry.client.now }
         ensures free_handed { IsFreeHanded (client_of self.entry) }
+        ensures unsettled { is_settled (client_of self.entry).attempt.phase ≡ false }
         ensures steps { (client_of self.entry).attempt.steps ≤ step_bound self.entry }
     {
         let Self {

@@ -1,5 +1,6 @@
 //! One read of a word of the region.
-ghost use Rattle.std.specs.Prelude.{◌≡◌, ℕ, ◌<◌, ◌^◌, IfOk, IfErr, IfSome, IfNone, IsOk, true};
+ghost use Rattle.std.specs.Prelude.{◌≡◌, ℕ, ◌<◌, ◌^◌, IfOk, IfErr, IfSome, IfNone, IsOk, true, false};
+ghost use Rattle.stm_core.specs.Client.{is_settled};
 ghost use Rattle.stm_core.specs.LockWord.{free_word};
 ghost use Rattle.stm_core.specs.Guards.{stripe_of};
 ghost use Rattle.stm_region.specs.Findings.{StandsOn};
@@ -53,6 +54,7 @@ pub(crate) fn read_word<L: Law, R: Allocator>(
     ensures own { client.new.table ≡ client.old.table }
     ensures same { still client.new.value ≡ still client.old.value }
     ensures unfinished { is_unfinished client.new.value.attempt.phase ≡ true }
+    ensures unsettled { is_settled client.new.value.attempt.phase ≡ false }
     ensures ok { IfOk result (λ x. HasReadWord client.old.value client.new.value addr.0 x) }
     ensures stands { IfOk result (λ _.
         StandsOn L.fits region.now.size client.new.value.attempt.reads) }
@@ -89,6 +91,7 @@ fn read_under<L: Law, R: Allocator>(
     ensures own { client.new.table ≡ client.old.table }
     ensures same { still client.new.value ≡ still client.old.value }
     ensures unfinished { is_unfinished client.new.value.attempt.phase ≡ true }
+    ensures unsettled { is_settled client.new.value.attempt.phase ≡ false }
     ensures ok { IfOk result (λ x. HasReadWord client.old.value client.new.value addr.0 x) }
     ensures stands { IfOk result (λ _.
         StandsOn L.fits region.now.size client.new.value.attempt.reads) }

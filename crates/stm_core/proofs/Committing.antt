@@ -24,7 +24,7 @@ module _ (lawful : RecordLaw) (size renewal : ℕ) (story : List (List (ℕ × �
       (wv : w.attempt.wv ≡ v.attempt.wv) (writes : w.attempt.writes ≡ v.attempt.writes)
       (records : w.records ≡ inserted r v.records) (r_tag : r.tag ≡ v.attempt.tag) (r_reads : r.reads ≡ v.attempt.reads)
       (r_writes : r.writes ≡ v.attempt.writes) (r_writer : r.writer ≡ true) (r_version : r.version ≡ v.attempt.wv)
-      (r_renewal : r.renewal ≡ renewal) where
+      (r_renewal : r.renewal ≡ renewal) (aborted : w.aborted ≡ v.aborted) where
     abbrev story' : List (List (ℕ × ℕ))
     story' = set story (v.attempt.wv - 1) v.attempt.writes
 
@@ -66,6 +66,7 @@ module _ (lawful : RecordLaw) (size renewal : ℕ) (story : List (List (ℕ × �
           (λ old. told_on lawful size renewal story story' x (it.told x old) (record_stays id v at x old))
           (in_inserted r v.records x (subst (In x) records m));
       reads = rw reads it.reads;
+      aborted = λ x m. it.aborted x (subst (In x) aborted m);
       writes = λ z. rw writes (it.writes open'.0);
       abides = λ o. clash phase o.1;
       commits = λ d. rw (wv, writes) here;
@@ -115,7 +116,7 @@ module _ (lawful : RecordLaw) (size renewal : ℕ) (story : List (List (ℕ × �
   module _ (phase : decided w ≡ false) (is_gathered : w.is_gathered ≡ false) (reads : w.attempt.reads ≡ v.attempt.reads)
       (wv : w.attempt.wv ≡ v.attempt.wv) (none' : v.attempt.wv ≡ 0) (records : w.records ≡ inserted r v.records)
       (r_lawful : lawful r.tag r.reads r.writes) (r_reads : r.reads ≡ v.attempt.reads) (r_writes : r.writes ≡ [])
-      (r_writer : r.writer ≡ false) (r_renewal : r.renewal ≡ renewal) where
+      (r_writer : r.writer ≡ false) (r_renewal : r.renewal ≡ renewal) (aborted : w.aborted ≡ v.aborted) where
     closed : 0 < w.attempt.wv → ⊥
     closed z = (let e : w.attempt.wv ≡ 0 = wv ∙ none' in omega arith)
 
@@ -140,6 +141,7 @@ module _ (lawful : RecordLaw) (size renewal : ℕ) (story : List (List (ℕ × �
           told = λ x m. ⊎_elim (λ e. subst (IsTold lawful size renewal story) e reader_told) (λ old. it.told x old)
               (in_inserted r v.records x (subst (In x) records m));
           reads = rw reads it.reads;
+          aborted = λ x m. it.aborted x (subst (In x) aborted m);
           writes = λ z. absurd (closed z);
           abides = λ o. absurd (closed o.0);
           commits = λ d. clash d phase;

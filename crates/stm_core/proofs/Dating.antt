@@ -10,7 +10,7 @@ use Rattle.tx_memory.specs.Image.{In}
 use Rattle.stm_core.specs.Client.{Client, Record, rank, inserted}
 use Rattle.stm_core.specs.Version.{At, IsOpen}
 use Rattle.stm_core.specs.History.{ByPoint}
-use Rattle.stm_core.specs.Theorem.{is_settled}
+use Rattle.stm_core.specs.Client.{is_settled}
 use Rattle.stm_core.proofs.Lists.{at_set, set_here, set_else, same_at, by_bool, at_longer, in_range, clash, nothing_in}
 use Rattle.stm_core.proofs.Lists.{who_set}
 use Rattle.stm_core.specs.Event.{taking, gone}

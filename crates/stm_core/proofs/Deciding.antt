@@ -8,7 +8,8 @@ use lib.ListN.{get_elem?}
 use Rattle.tx_memory.specs.Image.{In}
 use Rattle.stm_core.specs.Client.{Client, Record, Step, probed, fetched, decided, version_of, IsFree, writes_to, base}
 use Rattle.stm_core.specs.Client.{inserted}
-use Rattle.stm_core.specs.Version.{World, At, IsOpen, Claims, runs, passes, noted, Saw, IsSound, IsKept, IsBooked}
+use Rattle.stm_core.specs.Version.{World, At, IsOpen, Claims, runs, passes, noted, gave_up, Saw, IsSound, IsKept}
+use Rattle.stm_core.specs.Version.{IsBooked}
 use Rattle.stm_core.proofs.Lists.{same_at, clash, by_bool, nothing_in}
 use Rattle.stm_core.proofs.Turns.{Heart, turn_keeps}
 use Rattle.stm_core.proofs.Orders.{in_inserted}
@@ -31,7 +32,7 @@ module _ (lk : ℕ → ℕ) (s : World) (cs : List Client) (id : ℕ) (v w : Cli
     (rv : w.attempt.rv ≡ v.attempt.rv) (floor : w.floor ≡ v.floor) (reads : w.attempt.reads ≡ v.attempt.reads)
     (passed : w.attempt.passed ≡ v.attempt.passed) (records : w.records ≡ inserted r v.records)
     (same : r.reads ≡ v.attempt.reads) (there : base r ≡ v.attempt.wv - 1)
-    (version : r.version ≡ v.attempt.wv) where
+    (version : r.version ≡ v.attempt.wv) (aborted : w.aborted ≡ v.aborted) where
   me : IsSound lk s v
   me = h.version.sound id v at
 
@@ -109,6 +110,7 @@ module _ (lk : ℕ → ℕ) (s : World) (cs : List Client) (id : ℕ) (v w : Cli
       (all a x (subst (In (a, x)) same (subst (λ (z : Record). In (a, x) z.reads) (sym new) m))))
       (λ old. noted y old e m)
       (in_inserted r v.records y (subst (In y) records i))
+  my_claims b a x (gave_up y i e m) = gave_up y (subst (In y) aborted i) e m
 
   wrote_still : (m a : ℕ) → writes_to v.attempt.writes a ≡ false → s.wrote m a ≡ false → wrote m a ≡ false
   wrote_still m a f g = dite (ℕ_discrete m v.attempt.wv) (λ e. rw e (d.own a ∙ f)) (λ n. d.others m a n ∙ g)

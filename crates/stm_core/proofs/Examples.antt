@@ -65,6 +65,14 @@ worked_lists = record {
   overtaken_decides = refl;
   abandoned_is_allowed = (_, ((refl, tt), ((refl, tt), ((refl, tt), ((refl, tt), ((refl, tt), ((refl, tt), refl)))))));
   abandoned_decides = refl;
+  abandoned_leaves = refl;
+  carried_is_allowed =
+      (_, ((refl, tt), ((refl, tt), ((refl, tt), ((refl, tt), ((refl, tt), ((refl, tt), ((refl, tt), refl))))))));
+  carried_leaves = refl;
+  gathered_is_allowed =
+      (_, ((refl, tt), ((refl, tt), ((refl, tt), ((refl, tt), ((refl, tt), ((refl, tt), refl)))))));
+  gathered_leaves = refl;
+  images = record { before_first = refl; at_first = refl; before_second = refl; at_second = refl };
   first_attempt = refl;
   second_attempt = refl;
 }

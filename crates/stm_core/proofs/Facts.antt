@@ -1,17 +1,19 @@
 -- The consequences of the version invariant for the records, the images and the words.
-use Rattle.std.proofs.Common.{◌≡◌, ◌≢◌, ℕ, suc, ◌+◌, ◌*◌, ◌≤◌, ◌<◌, true, false, List, [], ◌∷◌, length, slice_index}
+use Rattle.std.proofs.Common.{◌≡◌, ◌≢◌, ℕ, suc, ◌+◌, ◌*◌, ◌≤◌, ◌<◌, ⊎_elim, true, false, List, [], ◌∷◌, length}
+use Rattle.std.proofs.Common.{slice_index}
 use Rattle.std.proofs.Common.{refl, sym, ap, ◌∙◌, subst, arith, zero-le}
 use mathlib.Core.Logic.{dite}
 use native.Mathlib.Decide.{ℕ_discrete}
 use Rattle.std.proofs.lemmas.List.{ext_get_or}
 use Rattle.tx_memory.specs.Image.{In, Agrees, laid}
-use Rattle.stm_core.specs.Client.{Client, Record, base, version_of, IsFree, RecordLaw}
+use Rattle.stm_core.specs.Client.{Client, Record, Aborted, given_up, base, version_of, IsFree, RecordLaw}
 use Rattle.stm_core.specs.Core.{Core, IsFreeHanded}
 use Rattle.stm_core.specs.Version.{At, runs, noted}
 use Rattle.stm_core.specs.Records.{Ordered, value_of}
 use Rattle.stm_core.specs.Invariant.{share, Inv}
 use Rattle.stm_core.specs.History.{Serial, image_after, image_at, all_records, IsShared, SomeFits}
 use Rattle.stm_core.proofs.Lists.{nothing_in, same_at, by_bool}
+use Rattle.stm_core.proofs.Loading.{given_cases, given_claims}
 use Rattle.stm_core.proofs.Orders.{rank_after}
 use Rattle.stm_core.proofs.Stories.{at_zero}
 use Rattle.stm_core.proofs.Histories.{IsInStory, Ranked, Ahead, serial, image_is, image_length, image_last, image_fits}
@@ -79,6 +81,19 @@ module _ (lawful : RecordLaw) (lk : ℕ → ℕ) (c : Core) (h : Inv lawful lk c
       let l = (h.filed.filed i v e).reads a x m in (
         rw (image_length c.opening h.story rs c.opening v.attempt.rv) l,
         image_by rs g v.attempt.rv a l ∙ ((h.version.sound i v e).agrees v.attempt.rv a x (runs refl m)).0,
+      )
+
+  -- all words that an aborted attempt of the present renewal has read are in the image of its read
+  -- version
+  pub aborted_by : (rs : List Record) → Ahead c.opening h.story rs c.opening 0 → (i : ℕ) (v : Client) →
+      At c.clients i v → (r : Aborted) → In r (given_up v) → Agrees (image_at c.opening r.version rs) r.reads
+  aborted_by rs g i v e r k a x m =
+      let f = h.filed.filed i v e in
+      let l = ⊎_elim (λ p. f.aborted r p a x m)
+      (λ p. f.reads a x (subst (λ (z : Aborted). In (a, x) z.reads) (sym p.1) m)) (given_cases v r k) in (
+        rw (image_length c.opening h.story rs c.opening r.version) l,
+        image_by rs g r.version a l
+            ∙ ((h.version.sound i v e).agrees r.version a x (given_claims v r r.version a x k refl m)).0,
       )
 
   pub one_version : (i : ℕ) (v : Client) → At c.clients i v →

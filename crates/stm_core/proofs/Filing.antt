@@ -36,6 +36,7 @@ module _ (lawful : RecordLaw) (size renewal : ℕ) where
     ordered = it.ordered;
     told = λ r i. told_on story story' r (it.told r i) (f r i);
     reads = it.reads;
+    aborted = it.aborted;
     writes = it.writes;
     abides =
         it.abides;

@@ -9,27 +9,31 @@ use native.Mathlib.Decide.{ℕ_discrete}
 use lib.ListN.{get_elem?}
 use Rattle.std.proofs.lemmas.List.Sums.{sum_by-cons}
 use Rattle.tx_memory.specs.Image.{In}
-use Rattle.stm_core.specs.Client.{Client, Record, decided, writes_to, merged, nothing, RecordLaw}
+use Rattle.stm_core.specs.Client.{Client, Record, Aborted, decided, writes_to, merged, given_up, nothing, RecordLaw}
 use Rattle.stm_core.specs.Event.{giving, fresh, taking, gone, opener}
 use Rattle.stm_core.specs.Core.{Core, IsFreeHanded, divided, gathered, opened}
-use Rattle.stm_core.specs.Version.{World, At, IsOpen, Claims, runs, passes, noted, Saw, IsSound, IsKept, IsBooked}
-use Rattle.stm_core.specs.Records.{IsFiled, Filed, wrote_in}
+use Rattle.stm_core.specs.Version.{World, At, IsOpen, Claims, runs, passes, noted, gave_up, Saw, IsSound, IsKept}
+use Rattle.stm_core.specs.Version.{IsBooked}
+use Rattle.stm_core.specs.Records.{AllInside, IsFiled, Filed, wrote_in}
 use Rattle.stm_core.specs.Invariant.{world, share, Inv}
 use Rattle.stm_core.proofs.Lists.{at_set, at_snoc, at_longer, set_here, set_else, same_at, clash, nothing_in}
 use Rattle.stm_core.proofs.Turns.{Heart, look_keeps}
 use Rattle.stm_core.proofs.Orders.{in_merged, merged_left, merged_right, merged_ordered}
-use Rattle.stm_core.proofs.Loading.{same_keeps}
+use Rattle.stm_core.proofs.Loading.{same_keeps, given_cases, given_claims}
+use Rattle.stm_core.proofs.Eras.{in_append}
 use Rattle.stm_core.proofs.Clearing.{clear_keeps}
 use Rattle.stm_core.proofs.Sums.{sum_set, sum_snoc, share_of}
 use Rattle.stm_core.proofs.Steps.{heart_of, same_files}
 
 module _ (lk : ℕ → ℕ) (s : World) (cs : List Client) (w : Client) (h : Heart lk s cs) (held : w.attempt.held ≡ [])
     (wv : w.attempt.wv ≡ 0) (reads : w.attempt.reads ≡ []) (records : w.records ≡ []) (phase : decided w ≡ false)
-    (rv : w.attempt.rv ≡ 0) (floor : w.floor ≤ s.clock) (last : w.attempt.last ≡ nothing) where
+    (rv : w.attempt.rv ≡ 0) (floor : w.floor ≤ s.clock) (last : w.attempt.last ≡ nothing)
+    (aborted : w.aborted ≡ []) where
   no_claim : (b a x : ℕ) → Claims w b a x → ⊥
   no_claim b a x (runs e i) = nothing_in (a, x) (subst (In (a, x)) reads i)
   no_claim b a x (passes e j l i) = (let z : suc b ≡ 0 = e ∙ wv in omega arith)
   no_claim b a x (noted r i e m) = nothing_in r (subst (In r) records i)
+  no_claim b a x (gave_up r i e m) = nothing_in r (subst (In r) aborted i)
 
   no_lock : (k u : ℕ) → In (k, u) w.attempt.held → ⊥
   no_lock k u i = nothing_in (k, u) (subst (In (k, u)) held i)
@@ -98,11 +102,12 @@ module _ (lk : ℕ → ℕ) (s : World) (cs : List Client) (w : Client) (h : Hea
 module _ (lawful : RecordLaw) (size renewal : ℕ) (story : List (List (ℕ × ℕ))) where
   -- a client that has nothing is filed
   blank_filed : (w : Client) → w.attempt.held ≡ [] → w.attempt.wv ≡ 0 → w.attempt.reads ≡ [] → w.records ≡ [] →
-      decided w ≡ false → IsFiled lawful size renewal story w
-  blank_filed w held wv reads records phase = record {
+      decided w ≡ false → w.aborted ≡ [] → IsFiled lawful size renewal story w
+  blank_filed w held wv reads records phase aborted = record {
     ordered = rw records tt;
     told = λ r m. absurd (nothing_in r (subst (In r) records m));
     reads = λ a x m. absurd (nothing_in (a, x) (subst (In (a, x)) reads m));
+    aborted = λ r m. absurd (nothing_in r (subst (In r) aborted m));
     writes = λ z. absurd (omega (arith, wv));
     abides = λ o. absurd (let z = o.0 in omega (arith, wv));
     commits = λ d. clash d phase;
@@ -111,9 +116,10 @@ module _ (lawful : RecordLaw) (size renewal : ℕ) (story : List (List (ℕ × �
 
   pub longer_files : (clock : ℕ) (cs : List Client) (w : Client) → Filed lawful size renewal story clock cs →
       w.attempt.held ≡ [] → w.attempt.wv ≡ 0 → w.attempt.reads ≡ [] → w.records ≡ [] → decided w ≡ false →
-      Filed lawful size renewal story clock (cs ++ w ∷ [])
-  longer_files clock cs w h held wv reads records phase = record {
-    filed = λ i o e. who (λ y c. IsFiled lawful size renewal story c) (λ y. blank_filed w held wv reads records phase)
+      w.aborted ≡ [] → Filed lawful size renewal story clock (cs ++ w ∷ [])
+  longer_files clock cs w h held wv reads records phase aborted = record {
+    filed = λ i o e. who (λ y c. IsFiled lawful size renewal story c)
+        (λ y. blank_filed w held wv reads records phase aborted)
         (λ y c at. h.filed y c at) i o e;
     versions = h.versions;
     unwritten = λ i j o p r e f m t op. who (λ y c. In r c.records →
@@ -147,7 +153,8 @@ module _ (lawful : RecordLaw) (size renewal : ℕ) (story : List (List (ℕ × �
       (writes : new.attempt.writes ≡ v.attempt.writes) (tag : new.attempt.tag ≡ v.attempt.tag)
       (phase : decided new ≡ decided v) (reads : new.attempt.reads ≡ v.attempt.reads)
       (none_held : none.attempt.held ≡ []) (none_wv : none.attempt.wv ≡ 0) (none_reads : none.attempt.reads ≡ [])
-      (none_records : none.records ≡ []) (none_phase : decided none ≡ false) where
+      (none_records : none.records ≡ []) (none_phase : decided none ≡ false) (none_aborted : none.aborted ≡ [])
+      (aborted : new.aborted ≡ v.aborted ++ given_up w) where
     mine : IsFiled lawful size renewal story v
     mine = h.filed i v at
 
@@ -164,6 +171,9 @@ module _ (lawful : RecordLaw) (size renewal : ℕ) (story : List (List (ℕ × �
           (λ x y m n t t'. h.once i j v w x y at to ne m n t t'));
       told = λ r m. ⊎_elim (λ p. mine.told r p) (λ p. its.told r p) (either r m);
       reads = rw reads mine.reads;
+      aborted = λ r m. ⊎_elim (λ p. mine.aborted r p) (λ p. ⊎_elim (λ q. its.aborted r q)
+          (λ q. subst (λ (z : Aborted). AllInside size z.reads) q.1 its.reads) (given_cases w r p))
+          (in_append v.aborted (given_up w) r (subst (In r) aborted m));
       writes = λ z. rw writes (mine.writes (subst (λ n. 0 < n) wv z));
       abides = λ o. rw (tag, reads, writes) (mine.abides (subst (λ n. 0 < n) wv o.0, sym phase ∙ o.1));
       commits = λ d. rw (wv, writes) (mine.commits (sym phase ∙ d));
@@ -190,7 +200,8 @@ module _ (lawful : RecordLaw) (size renewal : ℕ) (story : List (List (ℕ × �
     join_files : Filed lawful size renewal story clock (set (set cs i new) j none)
     join_files = record {
       filed = λ n o e. stands (λ y c. IsFiled lawful size renewal story c) joined
-          (blank_filed none none_held none_wv none_reads none_records none_phase) (λ y c q a b. h.filed y c q) n o e;
+          (blank_filed none none_held none_wv none_reads none_records none_phase none_aborted)
+          (λ y c q a b. h.filed y c q) n o e;
       versions = h.versions;
       unwritten = λ n m o p r e f g t op. stands (λ y c. In r c.records → r.version ≢ p.attempt.wv)
           (λ g'. versions_differ r t (λ y c q opn. ⊎_elim (λ l. h.unwritten i y v c r at q l t opn)
@@ -265,10 +276,10 @@ module _ (lawful : RecordLaw) (lk : ℕ → ℕ) (c : Core) (i : ℕ) (v : Clien
   pub split_keeps : IsFreeHanded v → 0 < v.grants → Inv lawful lk (divided i v c)
   split_keeps free z =
       let k = same_keeps lk (world c h.story) c.clients i v (heart_of lawful lk c h) at
-      (giving v) refl refl refl refl refl refl me.floor refl refl refl tt in
-      let f = same_files lawful lk c i v h at free.0 (giving v) free.0 refl refl refl refl refl refl in
+      (giving v) refl refl refl refl refl refl me.floor refl refl refl refl tt in
+      let f = same_files lawful lk c i v h at free.0 (giving v) free.0 refl refl refl refl refl refl refl in
       let k' = longer_keeps lk (world c h.story) (set c.clients i (giving v))
-      (fresh v) k refl refl refl refl refl refl me.floor refl in
+      (fresh v) k refl refl refl refl refl refl me.floor refl refl in
       record {
         bounded = h.bounded;
         grants = (let a = sum_snoc share (set c.clients i (giving v)) (fresh v) in let b =
@@ -278,7 +289,7 @@ module _ (lawful : RecordLaw) (lk : ℕ → ℕ) (c : Core) (i : ℕ) (v : Clien
         version = k'.version;
         books = k'.books;
         filed = longer_files lawful (length c.opening) c.renewal h.story c.clock (set c.clients i (giving v))
-            (fresh v) f refl refl refl refl refl;
+            (fresh v) f refl refl refl refl refl refl;
         size = h.size;
       }
 
@@ -292,6 +303,8 @@ module _ (lawful : RecordLaw) (lk : ℕ → ℕ) (c : Core) (i : ℕ) (v : Clien
     claims_of b a x (passes e y l m) = inl (passes e y l m)
     claims_of b a x (noted r m e n) = ⊎_elim (λ p. inl (noted r p e n)) (λ p. inr (noted r p e n))
         (in_merged v.records w.records r m)
+    claims_of b a x (gave_up r m e n) = ⊎_elim (λ p. inl (gave_up r p e n)) (λ p. inr (given_claims w r b a x p e n))
+        (in_append v.aborted (given_up w) r m)
 
     taken : Heart lk (world c h.story) (set c.clients i (taking v w))
     taken = look_keeps lk (world c h.story) c.clients i v (taking v w) (heart_of lawful lk c h) at record {
@@ -314,6 +327,7 @@ module _ (lawful : RecordLaw) (lk : ℕ → ℕ) (c : Core) (i : ℕ) (v : Clien
     nobody b a x (runs e m) = absurd (nothing_in (a, x) m)
     nobody b a x (passes e y l m) = absurd (omega arith)
     nobody b a x (noted r m e n) = absurd (nothing_in r m)
+    nobody b a x (gave_up r m e n) = absurd (nothing_in r m)
 
     -- a client that holds no lock gathers another that holds none
     pub gather_keeps : Inv lawful lk (gathered i v j w c)
@@ -331,7 +345,8 @@ module _ (lawful : RecordLaw) (lk : ℕ → ℕ) (c : Core) (i : ℕ) (v : Clien
           version = k.version;
           books = k.books;
           filed = join_files lawful (length c.opening) c.renewal h.story c.clock c.clients i j v w
-              (taking v w) gone h.filed at to ne refl free.0 refl refl refl refl refl refl refl refl refl refl;
+              (taking v w) gone h.filed at to ne refl free.0 refl refl refl refl refl refl refl refl refl refl refl
+              refl;
           size = h.size;
         }
 
@@ -380,13 +395,13 @@ module _ (lawful : RecordLaw) (lk : ℕ → ℕ) (image : List ℕ) (last stripe
   -- a core just opened
   pub opening_keeps : Inv lawful lk (opened image last stripes)
   opening_keeps =
-      let k = longer_keeps lk start [] opener nobody_yet refl refl refl refl refl refl (le_refl _) refl in record {
+      let k = longer_keeps lk start [] opener nobody_yet refl refl refl refl refl refl (le_refl _) refl refl in record {
         bounded = zero-le;
         grants = rw (sum_by-cons share opener []) refl;
         story = [];
         version = k.version;
         books = k.books;
         filed = longer_files lawful (length image) 0 [] 0 [] opener
-            (none_filed lawful (length image) 0) refl refl refl refl refl;
+            (none_filed lawful (length image) 0) refl refl refl refl refl refl;
         size = refl;
       }

@@ -34,5 +34,6 @@ pub mod Places
 pub mod Courses
 mod Moving
 mod Going
+mod Aborting
 mod Causing
 mod ConflictExamples

@@ -1,25 +1,46 @@
 -- The steps that change no word and leave locks, versions and writes as they are: they load a
 -- word, or fail.
-use Rattle.std.proofs.Common.{◌≡◌, ℕ, suc, ◌+◌, ◌*◌, ◌-◌, ◌≤◌, ◌<◌, ◌⊎◌, inl, inr, ⊎_elim, true, false, List, [], ◌∷◌}
-use Rattle.std.proofs.Common.{◌++◌, set, refl, sym, ap, ◌∙◌, subst, arith}
+use Rattle.std.proofs.Common.{◌≡◌, ℕ, suc, ◌+◌, ◌*◌, ◌-◌, ◌≤◌, ◌<◌, ◌⊎◌, inl, inr, ⊎_elim, Bool, true, false, List, []}
+use Rattle.std.proofs.Common.{◌∷◌}
+use Rattle.std.proofs.Common.{◌++◌, cond, set, refl, sym, ap, ◌∙◌, subst, arith}
 use mathlib.Core.Option.{some, some-injective}
 use mathlib.Core.Logic.{dite}
 use native.Mathlib.Decide.{ℕ_discrete}
 use lib.ListN.{get_elem?}
 use Rattle.tx_memory.specs.Image.{In}
-use Rattle.stm_core.specs.Client.{Client, Record, fetched, decided, version_of, IsFree, writes_to, base, inserted}
-use Rattle.stm_core.specs.Version.{World, At, IsOpen, Claims, runs, passes, noted, Saw, IsSound, IsBooked}
+use Rattle.stm_core.specs.Client.{Client, Record, Aborted, is_settled, aborted_of, given_up, fetched, decided}
+use Rattle.stm_core.specs.Client.{version_of, IsFree, writes_to, base, inserted}
+use Rattle.stm_core.specs.Version.{World, At, IsOpen, Claims, runs, passes, noted, gave_up, Saw, IsSound, IsBooked}
 use Rattle.stm_core.proofs.Lists.{in_snoc, same_at, by_bool, not_true}
 use Rattle.stm_core.proofs.Turns.{Heart, look_keeps}
 use Rattle.stm_core.proofs.Orders.{in_inserted}
 
+-- an aborted attempt of the present renewal is an earlier one, or the last one
+pub given_cases : (v : Client) (r : Aborted) → In r (given_up v) →
+    In r v.aborted ⊎ ((is_settled v.attempt.phase ≡ false) × (aborted_of v.attempt ≡ r))
+given_cases v r m = go (is_settled v.attempt.phase) refl m
+  where
+    go : (b : Bool) → is_settled v.attempt.phase ≡ b →
+        In r (cond b v.aborted (v.aborted ++ aborted_of v.attempt ∷ [])) →
+        In r v.aborted ⊎ ((is_settled v.attempt.phase ≡ false) × (aborted_of v.attempt ≡ r))
+    go true e i = inl i
+    go false e i = ⊎_elim (λ p. inl p) (λ p. inr (e, p)) (in_snoc v.aborted (aborted_of v.attempt) r i)
+
+-- so the client has read what the aborted attempt has read
+pub given_claims : (v : Client) (r : Aborted) (b a x : ℕ) → In r (given_up v) → b ≡ r.version →
+    In (a, x) r.reads → Claims v b a x
+given_claims v r b a x m e n = ⊎_elim (λ p. gave_up r p e n)
+    (λ p. runs (e ∙ ap (λ (z : Aborted). z.version) (sym p.1))
+    (subst (λ (z : Aborted). In (a, x) z.reads) (sym p.1) n)) (given_cases v r m)
+
 pub claims_as : (v w : Client) → w.attempt.rv ≡ v.attempt.rv → w.attempt.reads ≡ v.attempt.reads →
-    w.attempt.wv ≡ v.attempt.wv → w.attempt.passed ≡ v.attempt.passed → w.records ≡ v.records → (b a x : ℕ) →
-    Claims w b a x → Claims v b a x
-claims_as v w e f g p q b a x (runs k i) = runs (k ∙ e) (subst (In (a, x)) f i)
-claims_as v w e f g p q b a x (passes k j l i) = passes (k ∙ g) j (subst (λ n. j < n) p l)
+    w.attempt.wv ≡ v.attempt.wv → w.attempt.passed ≡ v.attempt.passed → w.records ≡ v.records →
+    w.aborted ≡ v.aborted → (b a x : ℕ) → Claims w b a x → Claims v b a x
+claims_as v w e f g p q z b a x (runs k i) = runs (k ∙ e) (subst (In (a, x)) f i)
+claims_as v w e f g p q z b a x (passes k j l i) = passes (k ∙ g) j (subst (λ n. j < n) p l)
     (subst (λ y. get_elem? y j ≡ some (a, x)) f i)
-claims_as v w e f g p q b a x (noted r i k m) = noted r (subst (In r) q i) k m
+claims_as v w e f g p q z b a x (noted r i k m) = noted r (subst (In r) q i) k m
+claims_as v w e f g p q z b a x (gave_up r i k m) = gave_up r (subst (In r) z i) k m
 
 module _ (lk : ℕ → ℕ) (s : World) (cs : List Client) (id : ℕ) (v : Client) (h : Heart lk s cs) (at : At cs id v) where
   me : IsSound lk s v
@@ -59,10 +80,10 @@ module _ (lk : ℕ → ℕ) (s : World) (cs : List Client) (id : ℕ) (v : Clien
   pub same_keeps : (w : Client) → w.attempt.held ≡ v.attempt.held → w.attempt.wv ≡ v.attempt.wv →
       w.attempt.writes ≡ v.attempt.writes → w.attempt.stored ≡ v.attempt.stored → decided w ≡ decided v →
       w.attempt.rv ≡ v.attempt.rv → w.floor ≤ s.clock → w.attempt.reads ≡ v.attempt.reads →
-      w.attempt.passed ≡ v.attempt.passed → w.records ≡ v.records
+      w.attempt.passed ≡ v.attempt.passed → w.records ≡ v.records → w.aborted ≡ v.aborted
       → Saw lk s w.attempt.rv w.attempt.last → Heart lk s (set cs id w)
-  same_keeps w held wv writes stored phase rv floor reads passed records saw =
-      let c : (b a x : ℕ) → Claims w b a x → Claims v b a x = claims_as v w rv reads wv passed records in
+  same_keeps w held wv writes stored phase rv floor reads passed records aborted saw =
+      let c : (b a x : ℕ) → Claims w b a x → Claims v b a x = claims_as v w rv reads wv passed records aborted in
       told_keeps w held wv writes stored phase rv floor saw (λ r i. me.recorded r (subst (In r) records i))
       (λ b a x p. me.agrees b a x (c b a x p)) (λ i o b a x e p q l. h.version.apart id i v o b a x at e
       (c b a x p) q l)
@@ -100,7 +121,8 @@ module _ (lk : ℕ → ℕ) (s : World) (cs : List Client) (id : ℕ) (v : Clien
   -- a read that was checked
   module _ (w : Client) (a n x : ℕ) (last : v.attempt.last ≡ fetched a n x) (still : s.lock (lk a) ≡ n)
       (fresh : v.attempt.wv ≡ 0) (more : w.attempt.reads ≡ v.attempt.reads ++ (a, x) ∷ [])
-      (rv : w.attempt.rv ≡ v.attempt.rv) (wv : w.attempt.wv ≡ v.attempt.wv) (records : w.records ≡ v.records) where
+      (rv : w.attempt.rv ≡ v.attempt.rv) (wv : w.attempt.wv ≡ v.attempt.wv) (records : w.records ≡ v.records)
+      (aborted : w.aborted ≡ v.aborted) where
     claims_more : (b c y : ℕ) → Claims w b c y → Claims v b c y ⊎ ((b ≡ v.attempt.rv) × (c ≡ a) × (y ≡ x))
     claims_more b c y (runs e i) =
         ⊎_elim (λ p. inl (runs (e ∙ rv) p)) (λ (p : (a, x) ≡ (c, y)). inr (
@@ -110,6 +132,7 @@ module _ (lk : ℕ → ℕ) (s : World) (cs : List Client) (id : ℕ) (v : Clien
         )) (in_snoc v.attempt.reads (a, x) (c, y) (subst (In (c, y)) more i))
     claims_more b c y (passes e j l i) = absurd (let z : suc b ≡ 0 = e ∙ (wv ∙ fresh) in omega arith)
     claims_more b c y (noted r i e m) = inl (noted r (subst (In r) records i) e m)
+    claims_more b c y (gave_up r i e m) = inl (gave_up r (subst (In r) aborted i) e m)
 
     saw' : Saw lk s v.attempt.rv (fetched a n x)
     saw' = subst (Saw lk s v.attempt.rv) last me.saw
@@ -138,7 +161,8 @@ module _ (lk : ℕ → ℕ) (s : World) (cs : List Client) (id : ℕ) (v : Clien
       (fine : (IsFree (s.lock (lk a)) × (version_of (s.lock (lk a)) ≤ v.attempt.rv)) ⊎
       ((u : ℕ) × In (lk a, u) v.attempt.held × (u ≤ v.attempt.rv)))
       (rv : w.attempt.rv ≡ v.attempt.rv) (reads : w.attempt.reads ≡ v.attempt.reads) (wv : w.attempt.wv ≡ v.attempt.wv)
-      (passed : w.attempt.passed ≡ v.attempt.passed + 1) (records : w.records ≡ v.records) where
+      (passed : w.attempt.passed ≡ v.attempt.passed + 1) (records : w.records ≡ v.records)
+      (aborted : w.aborted ≡ v.aborted) where
     quiet : (u : ℕ) → v.attempt.rv < u → s.wrote u a ≡ false
     quiet u l = ⊎_elim (λ f. (h.version.free (lk a) a u f.0 refl).1 (let k = f.1 in omega arith))
         (λ m. (h.version.kept id v (lk a) m.0 at m.1).newest a u refl (let k = m.2 in omega arith) (inl open'.1)) fine
@@ -170,6 +194,7 @@ module _ (lk : ℕ → ℕ) (s : World) (cs : List Client) (id : ℕ) (v : Clien
         inr (omega arith, sym (ap (λ (q : ℕ × ℕ). q.0) p), sym (ap (λ (q : ℕ × ℕ). q.1) p)))
         (λ n. inl (passes e' j (let l' : j < v.attempt.passed + 1 = subst (λ m. j < m) passed l in omega arith) i'))
     claims_passed b c y (noted r i e m) = inl (noted r (subst (In r) records i) e m)
+    claims_passed b c y (gave_up r i e m) = inl (gave_up r (subst (In r) aborted i) e m)
 
     pub pass_keeps : w.attempt.held ≡ v.attempt.held → w.attempt.writes ≡ v.attempt.writes →
         w.attempt.stored ≡ v.attempt.stored → decided w ≡ decided v → w.floor ≡ v.floor →
@@ -189,7 +214,7 @@ module _ (lk : ℕ → ℕ) (s : World) (cs : List Client) (id : ℕ) (v : Clien
   module _ (w : Client) (r : Record) (reads : w.attempt.reads ≡ v.attempt.reads) (rv : w.attempt.rv ≡ v.attempt.rv)
       (wv : w.attempt.wv ≡ v.attempt.wv) (passed : w.attempt.passed ≡ v.attempt.passed)
       (records : w.records ≡ inserted r v.records) (same : r.reads ≡ v.attempt.reads) (there : base r ≡ v.attempt.rv)
-      (version : r.version ≡ v.attempt.rv) where
+      (version : r.version ≡ v.attempt.rv) (aborted : w.aborted ≡ v.aborted) where
     claims_read : (b a x : ℕ) → Claims w b a x → Claims v b a x
     claims_read b a x (runs e i) = runs (e ∙ rv) (subst (In (a, x)) reads i)
     claims_read b a x (passes e j l i) = passes (e ∙ wv) j (subst (λ n. j < n) passed l)
@@ -198,6 +223,7 @@ module _ (lk : ℕ → ℕ) (s : World) (cs : List Client) (id : ℕ) (v : Clien
         ⊎_elim (λ new. runs (e ∙ (ap base (sym new) ∙ there))
         (subst (In (a, x)) same (subst (λ (z : Record). In (a, x) z.reads) (sym new) m))) (λ old. noted y old e m)
         (in_inserted r v.records y (subst (In y) records i))
+    claims_read b a x (gave_up y i e m) = gave_up y (subst (In y) aborted i) e m
 
     pub finish_keeps : w.attempt.held ≡ v.attempt.held → w.attempt.writes ≡ v.attempt.writes →
         w.attempt.stored ≡ v.attempt.stored → decided w ≡ decided v → w.floor ≡ v.floor →

@@ -46,7 +46,8 @@ module _ (lk : ℕ → ℕ) (s : World) (cs : List Client) (id : ℕ) (v w : Cli
     (word : Writes s.lock lock k (2 * u + 1)) (held : w.attempt.held ≡ v.attempt.held ++ (k, u) ∷ [])
     (wv : w.attempt.wv ≡ v.attempt.wv) (phase : decided w ≡ decided v) (rv : w.attempt.rv ≡ v.attempt.rv)
     (floor : w.floor ≡ v.floor) (reads : w.attempt.reads ≡ v.attempt.reads)
-    (passed : w.attempt.passed ≡ v.attempt.passed) (records : w.records ≡ v.records) where
+    (passed : w.attempt.passed ≡ v.attempt.passed) (records : w.records ≡ v.records)
+    (aborted : w.aborted ≡ v.aborted) where
   me : IsSound lk s v
   me = h.version.sound id v at
 
@@ -69,7 +70,7 @@ module _ (lk : ℕ → ℕ) (s : World) (cs : List Client) (id : ℕ) (v w : Cli
   up j = (let e = same_half j in omega arith)
 
   claims_same : (b a x : ℕ) → Claims w b a x → Claims v b a x
-  claims_same = claims_as v w rv reads wv passed records
+  claims_same = claims_as v w rv reads wv passed records aborted
 
   no_version : 0 < w.attempt.wv → ⊥
   no_version z = (let e : w.attempt.wv ≡ 0 = wv ∙ none' in omega arith)

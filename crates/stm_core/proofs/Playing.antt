@@ -8,10 +8,11 @@ use mathlib.Core.Logic.{dite}
 use native.Mathlib.Decide.{ℕ_discrete}
 use lib.ListN.{get_elem?}
 use Rattle.std.proofs.lemmas.Bool.Decides.{nat_tests}
-use Rattle.tx_memory.specs.Image.{In}
-use Rattle.stm_core.specs.History.{Serial, image_after, Ascending, ByPoint}
-use Rattle.stm_core.specs.Client.{shed, rank, Client, Record, idle, running, ending, checked, locked, ticked, validated}
-use Rattle.stm_core.specs.Client.{Stamp, version_of, word_before, value_fetched, writes_to, RecordLaw}
+use Rattle.tx_memory.specs.Image.{In, Agrees}
+use Rattle.stm_core.specs.History.{Serial, image_after, image_at, image_upto, Ascending, ByPoint}
+use Rattle.stm_core.specs.Client.{shed, rank, is_settled, Client, Record, idle, running, ending, checked, locked}
+use Rattle.stm_core.specs.Client.{ticked, validated, Stamp, version_of, word_before, value_fetched, writes_to}
+use Rattle.stm_core.specs.Client.{RecordLaw}
 use Rattle.stm_core.specs.Event.{decision, Action, begin, probe, fetch, check, lock, tick, validate, put, release}
 use Rattle.stm_core.specs.Event.{give_back, finish, committed_by, stepping, failing, read_too, holding, versioned}
 use Rattle.stm_core.specs.Event.{decides_at_once, won, passes, passing, after, giving, fresh, renewing, gone, opener}
@@ -19,13 +20,15 @@ use Rattle.stm_core.specs.Event.{writer_record, reader_record, with_ticks, marki
 use Rattle.stm_core.specs.Core.{Core, bounds_of, found, stepped, divided, gathered, renewed, IsFreeHanded, Event, acts}
 use Rattle.stm_core.specs.Core.{splits, gathers, renews, client_of, Allowed, played, Leads, opened}
 use Rattle.stm_core.specs.Version.{At, IsOpen}
-use Rattle.stm_core.specs.Invariant.{now, Rule}
-use Rattle.stm_core.specs.Theorem.{IsHistory, is_settled, IsSerializable, EveryListIsSerializable}
+use Rattle.stm_core.specs.Invariant.{now, Rule, KeepsAborted}
+use Rattle.stm_core.specs.Theorem.{IsHistory, IsSerializable, EveryListIsSerializable}
 use Rattle.stm_core.specs.Guards.{stripe_of}
 use Rattle.stm_core.proofs.Lists.{at_set, set_here, same_at, by_bool, clash, nothing_in, only_one}
 use Rattle.stm_core.proofs.Steps.{undecided_at, by_case}
 use Rattle.stm_core.proofs.Histories.{Ahead, Ranked, rank_writer, rank_reader, serial, image_last}
-use Rattle.stm_core.proofs.Facts.{ahead_by, agrees_by, cells_by}
+use Rattle.stm_core.proofs.Facts.{ahead_by, agrees_by, aborted_by, cells_by}
+use Rattle.stm_core.proofs.Aborting.{AllAborted, bare_aborted, act_aborted, split_aborted, gather_aborted}
+use Rattle.stm_core.proofs.Aborting.{renew_aborted, all_agree}
 use Rattle.stm_core.proofs.Eras.{in_append, append_left, append_right, of_is}
 use Rattle.stm_core.proofs.Lones.{at_map, at_unmap, goes_on}
 use Rattle.stm_core.proofs.Renewals.{step_rules, now_stepped, may_shed, pre, map_length, eqb_yes}
@@ -306,6 +309,7 @@ module _ (lawful : RecordLaw) (lk : ℕ → ℕ) where
     pub rule : Rule lawful lk c
     pub dated : IsDatedBy old h (now c)
     pub earlier : Earlier old (frame_of c)
+    pub aborted : AllAborted c.first old c.renewal c.clients
 
   -- a renewal begins a new history
   module _ (old h : List Record) (c : Core) (b : Beside old h c) (i : ℕ) (v : Client) (at : At c.clients i v)
@@ -425,6 +429,11 @@ module _ (lawful : RecordLaw) (lk : ℕ → ℕ) where
       rule = renew_rules lawful lk c b.rule i v at free others last;
       dated = renew_dates;
       earlier = renew_earlier;
+      aborted = renew_aborted c.first old h c.renewal v (b.aborted i v at)
+          (λ r m. b.rule.past.earlier r (b.earlier.only r m))
+          (λ r m. let q = d.only r m in ((b.rule.inv.filed.filed q.0 q.1 q.2).told r q.3).present)
+          (λ r m. subst (λ z. Agrees (image_at z r.version h) r.reads) (sym b.earlier.leads)
+          (aborted_by lawful lk (now c) b.rule.inv h ahead i v' at' r m)) c.clients i is_gone;
     }
 
   -- an allowed event keeps the whole invariant
@@ -449,6 +458,15 @@ module _ (lawful : RecordLaw) (lk : ℕ → ℕ) where
   decision_now t m begin n v = refl
   decision_now t m _ n v = refl
 
+  aborted_stepped : (c : Core) (old : List Record) → AllAborted c.first old c.renewal c.clients → (i : ℕ)
+      (v : Client) → At c.clients i v → (t : Stamp) → t.renewal ≡ c.renewal → (e : Action) →
+      CanAct lawful lk (bounds_of c) e v.attempt → AllAborted (stepped t lk e i v c).first old
+      (stepped t lk e i v c).renewal (stepped t lk e i v c).clients
+  aborted_stepped c old h i v at t era begin may =
+      act_aborted c.first old c.renewal c.clients h i v at lawful lk (bounds_of c) t begin (found lk c begin) era may
+  aborted_stepped c old h i v at t era e may =
+      act_aborted c.first old c.renewal c.clients h i v at lawful lk (bounds_of c) t e (found lk c e) era may
+
   -- an allowed event leads to a core beside the histories with its decision
   pub event_beside : (c : Core) (e : Event) (old h : List Record) → Beside old h c → CanPlay lawful lk e c →
       Beside (earlier_after e old h) (history_after lk e c h) (played lk e c)
@@ -471,6 +489,7 @@ module _ (lawful : RecordLaw) (lk : ℕ → ℕ) where
             (subst (λ x. IsDatedBy old (filed (decision t e (found lk (now c) e) v') h) x)
             (sym (now_stepped lawful lk c b.rule (k - 1) v may.0.1 may.0.2 t refl e may.1)) r');
         earlier = subst (Earlier old) (frame_stays t lk e (k - 1) v c) b.earlier;
+        aborted = aborted_stepped c old b.aborted (k - 1) v may.0.1 t refl e may.1;
       }
   event_beside c (splits k) old h b may =
       let v = client_of c k in
@@ -481,6 +500,7 @@ module _ (lawful : RecordLaw) (lk : ℕ → ℕ) where
             (split_dates lawful lk old (now c) h b.dated (k - 1) (shed c.renewal v)
             (at_map (shed c.renewal) c.clients (k - 1) v may.0.1) may.0.2);
         earlier = b.earlier;
+        aborted = split_aborted c.first old c.renewal c.clients b.aborted (k - 1) v may.0.1;
       }
   event_beside c (gathers k j) old h b may =
       let v = client_of c k in
@@ -496,6 +516,7 @@ module _ (lawful : RecordLaw) (lk : ℕ → ℕ) where
             (at_map (shed c.renewal) c.clients (k - 1) v may.0.1) may.0.2 (j - 1) (shed c.renewal w)
             (at_map (shed c.renewal) c.clients (j - 1) w may.1.1) ne);
         earlier = b.earlier;
+        aborted = gather_aborted c.first old c.renewal c.clients b.aborted (k - 1) v may.0.1 (j - 1) w may.1.1;
       }
   event_beside c (renews k last) old h b may =
       renew_beside old h c b (k - 1) (client_of c k) may.0.1 (may.0.2, may.1) may.2 last
@@ -532,6 +553,8 @@ module _ (lawful : RecordLaw) (lk : ℕ → ℕ) where
     rule = opening_rules lawful lk image last stripes;
     dated = opening_dates image last stripes;
     earlier = record { serial = tt; leads = refl; ascending = tt; all = λ r m. m; only = λ r m. m };
+    aborted = λ i v e. subst (λ y. KeepsAborted image [] 0 y) (only_one opener i v e)
+        (bare_aborted image [] 0 opener refl refl refl);
   }
 
   -- the list of events with one more event decides exactly the records of the histories
@@ -677,6 +700,13 @@ stands lawful lk start es c l =
           (k.version.sound q.0 q.1 q.2).recorded r q.3) ∙ sym all;
       one_version = λ i v e. agrees_by lawful lk (now c) k h g i (shed c.renewal v)
           (at_map (shed c.renewal) c.clients i v e);
+      aborted = λ i v r e m. subst (λ z. Agrees (image_upto z r.renewal r.version (old ++ h)) r.reads) l.first
+          (all_agree c.first old h c.renewal v (b.aborted i v e)
+          (λ x n. b.rule.past.earlier x (b.earlier.only x n))
+          (λ x n. let q = d.only x n in ((k.filed.filed q.0 q.1 q.2).told x q.3).present)
+          (λ x n. subst (λ z. Agrees (image_at z x.version h) x.reads) (sym b.earlier.leads)
+          (aborted_by lawful lk (now c) k h g i (shed c.renewal v)
+          (at_map (shed c.renewal) c.clients i v e) x n)) r m).1;
       lone = λ i v e y z. goes_on lawful lk c k b.rule.lone i v e y z;
       words = λ f. cells_by lawful lk (now c) k h g (λ r m. d.only r m) (λ i v e. let q =
           at_unmap (shed c.renewal) c.clients i v e in sym (ap (λ (y : Client). y.attempt.held) q.2) ∙ f i q.0 q.1) ∙

@@ -6,7 +6,7 @@ use mathlib.Core.Logic.{dite}
 use native.Mathlib.Decide.{ℕ_discrete}
 use Rattle.tx_memory.specs.Image.{In}
 use Rattle.stm_core.specs.Client.{Client, decided, version_of, IsFree, writes_to}
-use Rattle.stm_core.specs.Version.{World, At, Claims, runs, passes, noted, Saw, IsSound, IsKept, IsBooked}
+use Rattle.stm_core.specs.Version.{World, At, Claims, runs, passes, noted, gave_up, Saw, IsSound, IsKept, IsBooked}
 use Rattle.stm_core.proofs.Lists.{same_at, clash, by_bool}
 use Rattle.stm_core.proofs.Turns.{Heart, turn_keeps}
 use Rattle.stm_core.proofs.Loading.{claims_as}
@@ -94,11 +94,12 @@ module _ (lk : ℕ → ℕ) (s : World) (cs : List Client) (id : ℕ) (v w : Cli
       In a v.attempt.stored) → w.attempt.wv ≡ v.attempt.wv → w.attempt.writes ≡ v.attempt.writes →
       w.attempt.stored ≡ v.attempt.stored → decided w ≡ decided v → w.attempt.rv ≡ v.attempt.rv → w.floor ≡ v.floor →
       w.attempt.reads ≡ v.attempt.reads
-      → w.attempt.passed ≡ v.attempt.passed → w.records ≡ v.records → Saw lk s w.attempt.rv w.attempt.last →
-      Heart lk after (set cs id w)
-  release_keeps number' is_decided all wv writes stored phase rv floor reads passed records saw =
+      → w.attempt.passed ≡ v.attempt.passed → w.records ≡ v.records → w.aborted ≡ v.aborted →
+      Saw lk s w.attempt.rv w.attempt.last → Heart lk after (set cs id w)
+  release_keeps number' is_decided all wv writes stored phase rv floor reads passed records aborted saw =
       let was_decided : decided w ≡ true = phase ∙ is_decided in
-      let claims_same : (b a x : ℕ) → Claims w b a x → Claims v b a x = claims_as v w rv reads wv passed records in
+      let claims_same : (b a x : ℕ) → Claims w b a x → Claims v b a x =
+      claims_as v w rv reads wv passed records aborted in
       let z : 0 < v.attempt.wv = (mine.told is_decided).0 in
       let below : u < v.attempt.wv = me.above k u holds z in
       turn_keeps lk s after cs id v w h at record {
@@ -156,10 +157,10 @@ module _ (lk : ℕ → ℕ) (s : World) (cs : List Client) (id : ℕ) (v w : Cli
   -- an undecided client, which gives up its write version
   pub give_back_keeps : n ≡ u → decided v ≡ false → w.attempt.wv ≡ 0 → w.attempt.passed ≡ 0 → decided w ≡ false →
       w.attempt.rv ≡ v.attempt.rv → w.floor ≡ v.floor → w.attempt.reads ≡ v.attempt.reads → w.records ≡ v.records →
-      Saw lk s w.attempt.rv w.attempt.last → Heart lk after (set cs id w)
-  give_back_keeps number' undecided wv passed phase rv floor reads records saw =
+      w.aborted ≡ v.aborted → Saw lk s w.attempt.rv w.attempt.last → Heart lk after (set cs id w)
+  give_back_keeps number' undecided wv passed phase rv floor reads records aborted saw =
       let none : 0 < w.attempt.wv → ⊥ = λ z. (let e = wv in omega arith) in
-      let claims_same : (b a x : ℕ) → Claims w b a x → Claims v b a x = claims_fewer wv rv reads records in
+      let claims_same : (b a x : ℕ) → Claims w b a x → Claims v b a x = claims_fewer wv rv reads records aborted in
       turn_keeps lk s after cs id v w h at record {
         sound = record {
           rv = rw rv me.rv;
@@ -202,7 +203,9 @@ module _ (lk : ℕ → ℕ) (s : World) (cs : List Client) (id : ℕ) (v w : Cli
       }
     where
       claims_fewer : w.attempt.wv ≡ 0 → w.attempt.rv ≡ v.attempt.rv → w.attempt.reads ≡ v.attempt.reads →
-          w.records ≡ v.records → (b a x : ℕ) → Claims w b a x → Claims v b a x
-      claims_fewer wv rv reads records b a x (runs e i) = runs (e ∙ rv) (subst (In (a, x)) reads i)
-      claims_fewer wv rv reads records b a x (passes e j l i) = absurd (let z : suc b ≡ 0 = e ∙ wv in omega arith)
-      claims_fewer wv rv reads records b a x (noted r i e m) = noted r (subst (In r) records i) e m
+          w.records ≡ v.records → w.aborted ≡ v.aborted → (b a x : ℕ) → Claims w b a x → Claims v b a x
+      claims_fewer wv rv reads records aborted b a x (runs e i) = runs (e ∙ rv) (subst (In (a, x)) reads i)
+      claims_fewer wv rv reads records aborted b a x (passes e j l i) =
+          absurd (let z : suc b ≡ 0 = e ∙ wv in omega arith)
+      claims_fewer wv rv reads records aborted b a x (noted r i e m) = noted r (subst (In r) records i) e m
+      claims_fewer wv rv reads records aborted b a x (gave_up r i e m) = gave_up r (subst (In r) aborted i) e m

@@ -14,6 +14,7 @@ use Rattle.stm_core.specs.Version.{At}
 use Rattle.stm_core.specs.Invariant.{Inv, now, Past, Rule}
 use Rattle.stm_core.proofs.Lists.{at_set, set_here, clash, nothing_in}
 use Rattle.stm_core.proofs.Eras.{AllOf, AllBefore, of_is, of_padded, pad, shed_pad, after_pad}
+use Rattle.stm_core.proofs.Aborting.{AllAborted, act_aborted}
 use Rattle.stm_core.proofs.Lones.{at_map, act_lone}
 use Rattle.stm_core.proofs.Knowing.{act_known}
 use Rattle.stm_core.proofs.Steps.{by_case, step_keeps}
@@ -106,8 +107,9 @@ module _ (lawful : RecordLaw) (lk : ℕ → ℕ) (c : Core) (h : Rule lawful lk 
         ap (λ z. set (map (shed c.renewal) c.clients) i z) (shed_pad c.renewal (pre i) w (pre_before i) f)
 
     set_past : (w : Client) → AllOf c.renewal w.records → w.is_gathered ≡ false →
+        AllAborted c.first c.past c.renewal (set c.clients i (pad (pre i) w)) →
         Past lawful c.first c.opening c.past c.renewal (set c.clients i (pad (pre i) w))
-    set_past w f s = record {
+    set_past w f s aborted = record {
       serial = h.past.serial;
       leads = h.past.leads;
       abides = h.past.abides;
@@ -121,6 +123,7 @@ module _ (lawful : RecordLaw) (lk : ℕ → ℕ) (c : Core) (h : Rule lawful lk 
           (λ p. h.past.kept j o p.1) (at_set c.clients i j (pad (pre i) w) o e);
       are_gone = λ j o e y. ⊎_elim (λ p. clash y (sym (ap (λ (z : Client). z.is_gathered) p.1) ∙ s))
           (λ p. h.past.are_gone j o p.1 y) (at_set c.clients i j (pad (pre i) w) o e);
+      aborted = aborted;
     }
 
     module _ (t : Stamp) (era : t.renewal ≡ c.renewal) (e : Action)
@@ -163,7 +166,11 @@ module _ (lawful : RecordLaw) (lk : ℕ → ℕ) (c : Core) (h : Rule lawful lk 
       (sym (after_is lawful lk c h i v at live t era e may (found lk c e)))
       (set_past lawful lk c h i v at live (after t lk e (found lk c e) v')
       (subst (λ n. AllOf c.renewal (after t lk e n v').records) same
-      (after_of lawful lk c h i v at live t era e may)) (after_gathered t lk e (found lk c e) v' ∙ live))
+      (after_of lawful lk c h i v at live t era e may)) (after_gathered t lk e (found lk c e) v' ∙ live)
+      (subst (λ z. AllAborted c.first c.past c.renewal (set c.clients i z))
+      (after_is lawful lk c h i v at live t era e may (found lk c e))
+      (act_aborted c.first c.past c.renewal c.clients h.past.aborted i v at lawful lk (bounds_of c) t e
+      (found lk c e) era may)))
 
   pub now_stepped : (e : Action) → CanAct lawful lk (bounds_of c) e v.attempt →
       now (stepped t lk e i v c) ≡ stepped t lk e i v' (now c)

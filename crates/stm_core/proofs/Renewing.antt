@@ -8,14 +8,15 @@ use lib.ListN.{get_elem?}
 use Rattle.std.proofs.lemmas.Bool.Decides.{nat_tests}
 use Rattle.std.proofs.lemmas.List.{map-set}
 use Rattle.std.proofs.lemmas.List.Sums.{sum_by-cons}
-use Rattle.tx_memory.specs.Image.{In, laid}
-use Rattle.stm_core.specs.Client.{Client, Record, nothing, decided, before, merged, of_renewal, shed, RecordLaw}
+use Rattle.tx_memory.specs.Image.{In, Agrees, laid}
+use Rattle.stm_core.specs.Client.{Client, Record, Aborted, is_settled, given_up, all_aborted, nothing, decided, before}
+use Rattle.stm_core.specs.Client.{merged, of_renewal, shed, RecordLaw}
 use Rattle.stm_core.specs.Event.{giving, fresh, taking, renewing, gone, opener}
 use Rattle.stm_core.specs.Core.{Core, divided, gathered, renewed, IsFreeHanded, opened, begun_on}
 use Rattle.stm_core.specs.Version.{World, At}
 use Rattle.stm_core.specs.Records.{Ordered, Filed}
-use Rattle.stm_core.specs.History.{Serial, image_after}
-use Rattle.stm_core.specs.Invariant.{world, share, Inv, now, Sorted, Rule}
+use Rattle.stm_core.specs.History.{Serial, image_after, image_at, image_upto, all_records}
+use Rattle.stm_core.specs.Invariant.{world, share, Inv, now, Sorted, Rule, KeepsAborted}
 use Rattle.stm_core.proofs.Lists.{at_set, in_range, clash, nothing_in, only_one}
 use Rattle.stm_core.proofs.Eras.{AllBefore, in_append, of_none, of_padded, not_before, merged_padded, merged_late}
 use Rattle.stm_core.proofs.Eras.{all_merged}
@@ -24,7 +25,8 @@ use Rattle.stm_core.proofs.Knowing.{turn_known, split_known, gather_known}
 use Rattle.stm_core.proofs.Renewals.{pre, own_of, map_append, eqb_no, eqb_yes}
 use Rattle.stm_core.proofs.Turns.{Heart}
 use Rattle.stm_core.proofs.Sums.{sum_set, share_of}
-use Rattle.stm_core.proofs.Facts.{alone, alone_serial}
+use Rattle.stm_core.proofs.Aborting.{AllAborted, bare_aborted, split_aborted, gather_aborted, renew_aborted, all_agree}
+use Rattle.stm_core.proofs.Facts.{alone, alone_serial, ahead, aborted_by}
 use Rattle.stm_core.proofs.Joining.{longer_keeps, longer_files, split_keeps, gather_keeps, opening_keeps, nobody_yet}
 use Rattle.stm_core.proofs.Joining.{none_filed}
 use Rattle.stm_core.proofs.Conditions.{IsAlone}
@@ -105,6 +107,7 @@ module _ (lawful : RecordLaw) (lk : ℕ → ℕ) (c : Core) (h : Rule lawful lk 
             (λ q. h.past.are_gone j o q.1 y) (at_set c.clients i j (giving v) o p))
             (λ p. clash y (ap (λ (x : Client). x.is_gathered) (sym p.1)))
             (at_last (set c.clients i (giving v)) (fresh v) o j e);
+        aborted = split_aborted c.first c.past c.renewal c.clients h.past.aborted i v at;
       };
     }
 
@@ -203,6 +206,7 @@ module _ (lawful : RecordLaw) (lk : ℕ → ℕ) (c : Core) (h : Rule lawful lk 
             (λ n o e a b. rw (same_keeper n a b) (h.past.kept n o e));
         are_gone = stands (λ n o. o.is_gathered ≡ true → o ≡ gone) (λ y. clash y free.0) (λ y. refl)
             (λ n o e a b y. h.past.are_gone n o e y);
+        aborted = gather_aborted c.first c.past c.renewal c.clients h.past.aborted i v at j w to;
       };
     }
 
@@ -253,6 +257,21 @@ module _ (lawful : RecordLaw) (lk : ℕ → ℕ) (c : Core) (h : Rule lawful lk 
     past_leads = ap (image_after c.first) whole ∙ (image_append c.first c.past v'.records ∙
         (ap (λ m. image_after m v'.records) h.past.leads ∙ sym (alone lawful lk (now c) h.inv i v' at' free others').1))
 
+    past_read : (r : Aborted) → In r (given_up v) →
+        Agrees (image_at (image_after c.first c.past) r.version v'.records) r.reads
+    past_read r m = subst (λ z. Agrees (image_at z r.version v'.records) r.reads) (sym h.past.leads)
+        (subst (λ l. Agrees (image_at c.opening r.version l) r.reads)
+        (alone lawful lk (now c) h.inv i v' at' free others').0
+        (aborted_by lawful lk (now c) h.inv (all_records (now c).clients) (ahead lawful lk (now c) h.inv) i v' at' r m))
+
+    -- every aborted attempt has read the image of its version
+    pub past_agrees : (r : Aborted) → In r (all_aborted v) →
+        (r.renewal < c.renewal + 1) × Agrees (image_upto c.first r.renewal r.version v.records) r.reads
+    past_agrees r m = subst (λ l. (r.renewal < c.renewal + 1) ×
+        Agrees (image_upto c.first r.renewal r.version l) r.reads)
+        (sym whole) (all_agree c.first c.past v'.records c.renewal v (h.past.aborted i v at) h.past.earlier
+        (own_of lawful lk c h v) past_read r m)
+
     past_sorted : Sorted v.records
     past_sorted = subst Sorted (sym whole) (sorted_append c.past v'.records h.past.sorted
         (sorted_of v'.records (h.inv.filed.filed i v' at').ordered) (λ x y m n. not_before y x (let a =
@@ -268,6 +287,7 @@ module _ (lawful : RecordLaw) (lk : ℕ → ℕ) (c : Core) (h : Rule lawful lk 
       pub rv : w.attempt.rv ≡ 0
       pub floor : w.floor ≡ 0
       pub last_is : w.attempt.last ≡ nothing
+      pub aborted : w.aborted ≡ []
 
     abbrev start : World
     start = world (opened c.cells last (length c.locks)) []
@@ -279,7 +299,7 @@ module _ (lawful : RecordLaw) (lk : ℕ → ℕ) (c : Core) (h : Rule lawful lk 
         let b = f w (0, refl) in
         subst (Heart lk start) (append_assoc cs (w ∷ []) ws)
         (bare_keeps ws (cs ++ w ∷ []) (longer_keeps lk start cs w k b.held b.wv b.reads b.records b.phase b.rv
-        (let y = b.floor in omega arith) b.last_is) (λ y m. f y (suc m.0, m.1)))
+        (let y = b.floor in omega arith) b.last_is b.aborted) (λ y m. f y (suc m.0, m.1)))
 
     bare_files : (n : ℕ) (ws cs : List Client) → Filed lawful (length c.cells) n [] 0 cs →
         ((w : Client) → In w ws → IsBare w) → Filed lawful (length c.cells) n [] 0 (cs ++ ws)
@@ -288,7 +308,7 @@ module _ (lawful : RecordLaw) (lk : ℕ → ℕ) (c : Core) (h : Rule lawful lk 
         let b = f w (0, refl) in
         subst (Filed lawful (length c.cells) n [] 0) (append_assoc cs (w ∷ []) ws)
         (bare_files n ws (cs ++ w ∷ []) (longer_files lawful
-        (length c.cells) n [] 0 cs w k b.held b.wv b.reads b.records b.phase) (λ y m. f y (suc m.0, m.1)))
+        (length c.cells) n [] 0 cs w k b.held b.wv b.reads b.records b.phase b.aborted) (λ y m. f y (suc m.0, m.1)))
 
     abbrev clients' : List Client
     clients' = map (shed (c.renewal + 1)) (set c.clients i (renewing v))
@@ -306,6 +326,7 @@ module _ (lawful : RecordLaw) (lk : ℕ → ℕ) (c : Core) (h : Rule lawful lk 
           rv = refl;
           floor = refl;
           last_is = refl;
+          aborted = refl;
         }))
         (λ p. subst (λ y. IsBare (shed (c.renewal + 1) y)) (sym (is_gone m.0 q.0 p.1 p.0))
         (record {
@@ -317,6 +338,7 @@ module _ (lawful : RecordLaw) (lk : ℕ → ℕ) (c : Core) (h : Rule lawful lk 
           rv = refl;
           floor = refl;
           last_is = refl;
+          aborted = refl;
         })) (at_set c.clients i m.0 (renewing v) q.0 q.1))
 
     pub renew_rules : Rule lawful lk (renewed i last v c)
@@ -355,6 +377,9 @@ module _ (lawful : RecordLaw) (lk : ℕ → ℕ) (c : Core) (h : Rule lawful lk 
                 (at_set c.clients i n (renewing v) o e);
             are_gone = λ n o e y. ⊎_elim (λ p. clash y (sym (ap (λ (x : Client). x.is_gathered) p.1)))
                 (λ p. is_gone n o p.1 p.0) (at_set c.clients i n (renewing v) o e);
+            aborted = subst (λ l. AllAborted c.first l (c.renewal + 1) (set c.clients i (renewing v))) (sym whole)
+                (renew_aborted c.first c.past v'.records c.renewal v (h.past.aborted i v at) h.past.earlier
+                (own_of lawful lk c h v) past_read c.clients i is_gone);
           };
         }
 
@@ -376,6 +401,8 @@ opening_rules lawful lk image last stripes = record {
     kept = λ i v e. subst (λ (y : Client). y.records ≡ cond (eqb i 0) [] [] ++ of_renewal 0 y.records)
         (only_one opener i v e) (none (eqb i 0));
     are_gone = λ i v e y. clash y (ap (λ (x : Client). x.is_gathered) (sym (only_one opener i v e)));
+    aborted = λ i v e. subst (λ y. KeepsAborted image [] 0 y) (only_one opener i v e)
+        (bare_aborted image [] 0 opener refl refl refl);
   };
 }
   where
@@ -394,14 +421,16 @@ module _ (lawful : RecordLaw) (lk : ℕ → ℕ) (first image : List ℕ) (renew
 
   pub begins_rules : v ≡ renewing v → v.grants ≡ 63 → Serial first v.records → image_after first v.records ≡ image →
       ((r : Record) → In r v.records → lawful r.tag r.reads r.writes) → AllBefore renewal v.records → Sorted v.records →
+      ((r : Aborted) → In r v.aborted_before →
+      (r.renewal < renewal) × Agrees (image_upto first r.renewal r.version v.records) r.reads) →
       Rule lawful lk (begun_on first image renewal last stripes v)
-  begins_rules new all serial leads abides earlier sorted =
+  begins_rules new all serial leads abides earlier sorted aborted =
       let none : v''.records ≡ [] = of_none renewal v.records earlier in
       let k = longer_keeps lk (world (opened image last stripes) []) [] v'' (nobody_yet lawful lk image last stripes)
       (ap (λ (y : Client). y.attempt.held) new) (ap (λ (y : Client). y.attempt.wv) new)
       (ap (λ (y : Client). y.attempt.reads) new) none (ap (λ (y : Client). decided y) new)
       (ap (λ (y : Client). y.attempt.rv) new) (let e : v.floor ≡ 0 = ap (λ (y : Client). y.floor) new in
-      omega arith) (ap (λ (y : Client). y.attempt.last) new) in record {
+      omega arith) (ap (λ (y : Client). y.attempt.last) new) (ap (λ (y : Client). y.aborted) new) in record {
         inv = record {
           bounded = zero-le;
           grants = rw (sum_by-cons share v'' []) (let e : share v'' ≡ v.grants + 1 =
@@ -411,7 +440,8 @@ module _ (lawful : RecordLaw) (lk : ℕ → ℕ) (first image : List ℕ) (renew
           books = k.books;
           filed = longer_files lawful (length image) renewal [] 0 [] v'' (none_filed lawful (length image) renewal)
               (ap (λ (y : Client). y.attempt.held) new) (ap (λ (y : Client). y.attempt.wv) new)
-              (ap (λ (y : Client). y.attempt.reads) new) none (ap (λ (y : Client). decided y) new);
+              (ap (λ (y : Client). y.attempt.reads) new) none (ap (λ (y : Client). decided y) new)
+              (ap (λ (y : Client). y.aborted) new);
           size = refl;
         };
         lone = λ i w e y. clash y (ap (λ (x : Client). x.attempt.lone) (sym (only_one v i w e)) ∙
@@ -434,6 +464,11 @@ module _ (lawful : RecordLaw) (lk : ℕ → ℕ) (first image : List ℕ) (renew
           kept = kept;
           are_gone = λ i w e y. clash y (ap (λ (x : Client). x.is_gathered) (sym (only_one v i w e)) ∙
               ap (λ (x : Client). x.is_gathered) new);
+          aborted = λ i w e. subst (λ y. KeepsAborted first v.records renewal y) (only_one v i w e) (record {
+            begun = λ y. clash (ap (λ (x : Client). is_settled x.attempt.phase) new) y;
+            now = λ r m. absurd (nothing_in r (subst (In r) (ap (λ (y : Client). y.aborted) new) m));
+            before = aborted;
+          });
         };
       }
     where

@@ -5,8 +5,9 @@ use Rattle.std.proofs.Common.{set, slice_index, slice_set, get_or-set_same, get_
 use Rattle.std.proofs.Common.{refl, sym, ap, ◌∙◌, subst, arith, le_refl}
 use Rattle.std.proofs.lemmas.Bool.Decides.{nat_tests}
 use Rattle.tx_memory.specs.Image.{In}
-use Rattle.stm_core.specs.Client.{Client, Record, running, ending, committed, probed, fetched, checked, locked, ticked}
-use Rattle.stm_core.specs.Client.{validated, Stamp, is_committed, decided, version_of, IsFree, is_free, writes_to}
+use Rattle.stm_core.specs.Client.{Client, Record, Aborted, running, ending, committed, probed, fetched, checked, locked}
+use Rattle.stm_core.specs.Client.{ticked, validated, given_up, Stamp, is_committed, decided, version_of, IsFree}
+use Rattle.stm_core.specs.Client.{is_free, writes_to}
 use Rattle.stm_core.specs.Client.{old_version, word_before, value_fetched, RecordLaw}
 use Rattle.stm_core.specs.Event.{Action, begin, probe, fetch, check, lock, tick, validate, put, release, give_back}
 use Rattle.stm_core.specs.Event.{finish, committed_by, begun, stepping, failing, read_too, holding, versioned, is_empty}
@@ -19,7 +20,7 @@ use Rattle.stm_core.specs.Records.{AllInside, IsFiled, Filed, value_of, wrote_in
 use Rattle.stm_core.specs.Invariant.{world, share, Inv}
 use Rattle.stm_core.proofs.Lists.{set_here, in_range, nothing_in, in_snoc, at_longer, clash, by_bool}
 use Rattle.stm_core.proofs.Turns.{Heart}
-use Rattle.stm_core.proofs.Loading.{same_keeps, shown, check_keeps, pass_keeps, finish_keeps}
+use Rattle.stm_core.proofs.Loading.{same_keeps, shown, check_keeps, pass_keeps, finish_keeps, given_cases, given_claims}
 use Rattle.stm_core.proofs.Locking.{lock_keeps}
 use Rattle.stm_core.proofs.Ticking.{tick_keeps}
 use Rattle.stm_core.proofs.Clearing.{clear_keeps}
@@ -77,14 +78,16 @@ module _ (lawful : RecordLaw) (lk : ℕ → ℕ) where
 
     -- a client without write version that is not decided
     idle_files : (w : Client) → w.is_gathered ≡ false → w.attempt.wv ≡ 0 → decided w ≡ false → w.records ≡ v.records →
-        AllInside (length c.opening) w.attempt.reads → Filed lawful (length c.opening) c.renewal h.story c.clock
-        (set c.clients i w)
-    idle_files w is_gathered wv phase records reads = stay_keeps lawful
+        AllInside (length c.opening) w.attempt.reads →
+        ((r : Aborted) → In r w.aborted → AllInside (length c.opening) r.reads) →
+        Filed lawful (length c.opening) c.renewal h.story c.clock (set c.clients i w)
+    idle_files w is_gathered wv phase records reads aborted = stay_keeps lawful
         (length c.opening) c.renewal h.story c.clock c.clients i v h.filed at w
         record {
           ordered = rw records it.ordered;
           told = λ r m. it.told r (subst (In r) records m);
           reads = reads;
+          aborted = aborted;
           writes = λ z. absurd (omega (arith, wv));
           abides = λ o. absurd (let z = o.0 in omega (arith, wv));
           commits = λ d. clash d phase;
@@ -95,14 +98,15 @@ module _ (lawful : RecordLaw) (lk : ℕ → ℕ) where
     -- a client whose versions, reads and writes stay
     pub same_files : (w : Client) → w.is_gathered ≡ false → w.attempt.wv ≡ v.attempt.wv →
         w.attempt.writes ≡ v.attempt.writes → w.attempt.tag ≡ v.attempt.tag → decided w ≡ decided v →
-        w.records ≡ v.records → w.attempt.reads ≡ v.attempt.reads →
+        w.records ≡ v.records → w.attempt.reads ≡ v.attempt.reads → w.aborted ≡ v.aborted →
         Filed lawful (length c.opening) c.renewal h.story c.clock (set c.clients i w)
-    same_files w is_gathered wv writes tag phase records reads =
+    same_files w is_gathered wv writes tag phase records reads aborted =
         stay_keeps lawful (length c.opening) c.renewal h.story c.clock c.clients i v h.filed at w
         record {
           ordered = rw records it.ordered;
           told = λ r m. it.told r (subst (In r) records m);
           reads = rw reads it.reads;
+          aborted = λ r m. it.aborted r (subst (In r) aborted m);
           writes = λ z. rw writes (it.writes (subst (λ n. 0 < n) wv z));
           abides = λ o. rw (tag, reads, writes) (it.abides (subst (λ n. 0 < n) wv o.0, sym phase ∙ o.1));
           commits = λ d. rw (wv, writes) (it.commits (sym phase ∙ d));
@@ -150,7 +154,7 @@ module _ (lawful : RecordLaw) (lk : ℕ → ℕ) where
         decide_keeps lk (world c h.story) c.clients i v (committed_by t v) r
         (value_of c.opening (set h.story (v.attempt.wv - 1) v.attempt.writes))
         (wrote_in (set h.story (v.attempt.wv - 1) v.attempt.writes)) heart at open' d all refl refl refl refl refl
-        refl refl refl refl refl refl refl refl me.saw in
+        refl refl refl refl refl refl refl refl refl me.saw in
         record {
           bounded = h.bounded;
           grants = seats (committed_by t v) refl;
@@ -160,7 +164,7 @@ module _ (lawful : RecordLaw) (lk : ℕ → ℕ) where
           filed = commit_keeps lawful (length c.opening) c.renewal h.story c.clock c.clients i v
               (committed_by t v) r h.filed at open' (λ j o e ne dd. let z = ((h.books.booked j o e).told dd).0 in
               (z, λ s. ne (h.version.own j i o v e at z s)))
-              refl live refl refl refl refl refl refl refl refl refl era
+              refl live refl refl refl refl refl refl refl refl refl era refl
               (λ j o e ne op s. ne (h.version.own j i o v e at op.0 s));
           size = h.size;
         }
@@ -170,7 +174,7 @@ module _ (lawful : RecordLaw) (lk : ℕ → ℕ) where
     probe_inv t k may =
         let w : Client = after t lk (probe k) (slice_index c.locks k) v in
         quiet w refl (same_keeps lk (world c h.story) c.clients i v heart at w refl refl refl refl refl refl me.floor
-        refl refl refl (le_refl _)) (same_files w live refl refl refl refl refl refl)
+        refl refl refl refl (le_refl _)) (same_files w live refl refl refl refl refl refl refl)
 
     fetch_inv : (t : Stamp) (a : ℕ) → CanAct lawful lk (bounds_of c) (fetch a) v.attempt →
         Inv lawful lk (stepped t lk (fetch a) i v c)
@@ -181,14 +185,14 @@ module _ (lawful : RecordLaw) (lk : ℕ → ℕ) where
         let w : Client = after t lk (fetch a) (slice_index c.cells a) v in
         let word : p.0 ≡ word_before v.attempt.last = sym (ap word_before p.1) in
         quiet w refl (same_keeps lk (world c h.story) c.clients i v heart at w refl refl refl refl refl refl me.floor
-        refl refl refl
+        refl refl refl refl
         (subst (λ n. Saw lk (world c h.story) v.attempt.rv (fetched a n (slice_index c.cells a))) word (
           p.3,
           p.2,
           saw,
           shown lk (world c h.story) c.clients i v heart at a p.0 saw,
         )))
-        (same_files w live refl refl refl refl refl refl)
+        (same_files w live refl refl refl refl refl refl refl)
 
     reads_inside : (a x : ℕ) → a < length c.cells → AllInside (length c.opening) (v.attempt.reads ++ (a, x) ∷ [])
     reads_inside a x l b y m = ⊎_elim (λ old. it.reads b y old) (λ (new : (a, x) ≡ (b, y)). (let e : a ≡ b =
@@ -214,11 +218,11 @@ module _ (lawful : RecordLaw) (lk : ℕ → ℕ) where
         (read_too a (value_fetched v.attempt.last) v) in
         quiet w refl (check_keeps lk (world c h.story) c.clients i v heart at w a (word_before v.attempt.last)
         (value_fetched v.attempt.last) last (grind (arith, nat_tests)) may.0.1 refl refl refl refl refl refl refl
-        refl refl tt) (idle_files w live may.0.1 undecided refl
-        (reads_inside a (value_fetched v.attempt.last) may.1)))
+        refl refl refl tt) (idle_files w live may.0.1 undecided refl
+        (reads_inside a (value_fetched v.attempt.last) may.1) it.aborted))
         (λ e. let w : Client = stepping (checked a (word_before v.attempt.last) n) (failing v) in
         quiet w refl (same_keeps lk (world c h.story) c.clients i v heart at w refl refl refl refl
-        (sym undecided) refl me.floor refl refl refl tt) (idle_files w live may.0.1 refl refl it.reads))
+        (sym undecided) refl me.floor refl refl refl refl tt) (idle_files w live may.0.1 refl refl it.reads it.aborted))
 
     lock_inv : (t : Stamp) (k : ℕ) → CanAct lawful lk (bounds_of c) (lock k) v.attempt →
         Inv lawful lk (stepped t lk (lock k) i v c)
@@ -244,7 +248,7 @@ module _ (lawful : RecordLaw) (lk : ℕ → ℕ) where
               omega arith in q);
           else = λ j ne. get_or-set_other c.locks k j
               (n + 1) 0 ne;
-        }) refl refl refl refl refl refl refl refl tt in
+        }) refl refl refl refl refl refl refl refl refl tt in
         record {
           bounded = h.bounded;
           grants = seats w refl;
@@ -252,14 +256,15 @@ module _ (lawful : RecordLaw) (lk : ℕ → ℕ) where
           version = k'.version;
           books = k'.books;
           filed =
-              idle_files w live may.0.1 undecided refl it.reads;
+              idle_files w live may.0.1 undecided refl it.reads it.aborted;
           size = h.size;
         })
         (λ e. let w : Client = stepping (locked k (word_before v.attempt.last) n) (failing v) in
         subst (λ ls. Inv lawful lk (record c { locks = ls; clients = slice_set c.clients i w; events = c.events + 1 }))
         (sym (set_again c.locks k))
         (quiet w refl (same_keeps lk (world c h.story) c.clients i v heart at w refl refl refl refl
-        (sym undecided) refl me.floor refl refl refl tt) (idle_files w live may.0.1 refl refl it.reads)))
+        (sym undecided) refl me.floor refl refl refl refl tt)
+        (idle_files w live may.0.1 refl refl it.reads it.aborted)))
 
     validate_fine : (k : ℕ) → passes k (slice_index c.locks k) v ≡ true →
         (IsFree (slice_index c.locks k) × (version_of (slice_index c.locks k) ≤ v.attempt.rv)) ⊎
@@ -290,7 +295,7 @@ module _ (lawful : RecordLaw) (lk : ℕ → ℕ) where
         let k = put_keeps lk (world c h.story) c.clients i v w a x may.2.0
         (λ b. slice_index (slice_set c.cells a x) b) heart at is_decided may.2.1 may.1
         (record { here = get_or-set_same c.cells a x 0 inside; else = λ b ne. get_or-set_other c.cells a b x 0 ne })
-        refl refl refl refl refl refl refl refl refl refl tt in
+        refl refl refl refl refl refl refl refl refl refl refl tt in
         record {
           bounded = h.bounded;
           grants = seats w refl;
@@ -298,7 +303,7 @@ module _ (lawful : RecordLaw) (lk : ℕ → ℕ) where
           version = k.version;
           books = k.books;
           filed =
-              same_files w live refl refl refl refl refl refl;
+              same_files w live refl refl refl refl refl refl refl;
           size = length-set c.cells a x ∙ h.size;
         }
 
@@ -317,7 +322,7 @@ module _ (lawful : RecordLaw) (lk : ℕ → ℕ) where
           here = get_or-set_same c.locks k (2 * v.attempt.wv) 0 inside;
           else = λ j ne. get_or-set_other c.locks k j (2 * v.attempt.wv) 0 ne;
         }) (let b = me.above k u g z in
-        omega arith) me.wv refl is_decided may.2 refl refl refl refl refl refl refl refl refl tt in
+        omega arith) me.wv refl is_decided may.2 refl refl refl refl refl refl refl refl refl refl tt in
         record {
           bounded = h.bounded;
           grants = seats w refl;
@@ -325,7 +330,7 @@ module _ (lawful : RecordLaw) (lk : ℕ → ℕ) where
           version = k'.version;
           books = k'.books;
           filed =
-              same_files w live refl refl refl refl refl refl;
+              same_files w live refl refl refl refl refl refl refl;
           size = h.size;
         }
 
@@ -344,14 +349,14 @@ module _ (lawful : RecordLaw) (lk : ℕ → ℕ) where
           here = get_or-set_same c.locks k (2 * u) 0 inside;
           else = λ j ne. get_or-set_other c.locks k j (2 * u) 0 ne;
         }) (le_refl _) (let b = h.version.versions k in
-        omega arith) refl undecided refl refl refl refl refl refl refl me.saw in
+        omega arith) refl undecided refl refl refl refl refl refl refl refl me.saw in
         record {
           bounded = h.bounded;
           grants = seats w refl;
           story = h.story;
           version = k'.version;
           books = k'.books;
-          filed = idle_files w live refl refl refl it.reads;
+          filed = idle_files w live refl refl refl it.reads it.aborted;
           size = h.size;
         }
 
@@ -362,20 +367,27 @@ module _ (lawful : RecordLaw) (lk : ℕ → ℕ) where
         let r : Record = reader_record t tag v.attempt in
         let w : Client = after t lk (finish tag) c.clock v in
         quiet w refl (finish_keeps lk (world c h.story) c.clients i v heart at w r refl refl refl refl refl refl refl
+        refl
         refl refl refl refl (sym undecided) refl tt)
         (reader_keeps lawful (length c.opening) c.renewal h.story c.clock c.clients i v w r h.filed at refl live refl
-        refl may.0.1 refl may.2 refl refl refl era)
+        refl may.0.1 refl may.2 refl refl refl era refl)
 
     begin_inv : (t : Stamp) → CanAct lawful lk (bounds_of c) begin v.attempt → Inv lawful lk (stepped t lk begin i v c)
     begin_inv t may =
         let w : Client = begun t c.clock v in
         quiet w refl (clear_keeps lk (world c h.story) c.clients i v w heart at may may refl refl (le_refl _)
-        (le_refl _) fewer (λ r m. m) tt) (idle_files w live refl refl refl (λ a x m. absurd (nothing_in (a, x) m)))
+        (le_refl _) fewer (λ r m. m) tt) (idle_files w live refl refl refl
+        (λ a x m. absurd (nothing_in (a, x) m)) given_inside)
       where
         fewer : (b a x : ℕ) → Claims (begun t c.clock v) b a x → Claims v b a x
         fewer b a x (runs e m) = absurd (nothing_in (a, x) m)
         fewer b a x (version.passes e j l m) = absurd (omega arith)
         fewer b a x (version.noted r m e n) = version.noted r m e n
+        fewer b a x (version.gave_up r m e n) = given_claims v r b a x m e n
+
+        given_inside : (r : Aborted) → In r (given_up v) → AllInside (length c.opening) r.reads
+        given_inside r m = ⊎_elim (λ p. it.aborted r p)
+            (λ p. subst (λ (z : Aborted). AllInside (length c.opening) z.reads) p.1 it.reads) (given_cases v r m)
 
     -- a won tick, before the decision
     abbrev ticks_to : Stamp → List ℕ → List (ℕ × ℕ) → Client
@@ -399,7 +411,7 @@ module _ (lawful : RecordLaw) (lk : ℕ → ℕ) where
         let k = tick_keeps lk (world c h.story) c.clients i v w (value_of c.opening story')
         (wrote_in story') heart at reading.1 undecided (λ b a. tick_value h.story (slice_index c.opening a) b a)
         (λ u a. tick_wrote h.story u a)
-        (λ a e. may.locks.every a e) refl refl undecided refl (le_refl _) refl refl refl tt in
+        (λ a e. may.locks.every a e) refl refl undecided refl (le_refl _) refl refl refl refl tt in
         record {
           bounded = (let b = below in omega arith);
           grants = seats w refl;
@@ -411,6 +423,7 @@ module _ (lawful : RecordLaw) (lk : ℕ → ℕ) where
                 ordered = it.ordered;
                 told = λ r m. (on r m).told r m;
                 reads = it.reads;
+                aborted = it.aborted;
                 writes = λ z. (
                   λ a x m. (let q = may.inside a (is_written writes a x m.0 m.1) in let s = h.size in
                       omega arith),
@@ -487,8 +500,9 @@ module _ (lawful : RecordLaw) (lk : ℕ → ℕ) where
         (λ z. k)))
         (λ e. let w : Client = with_ticks (v.attempt.ticks + 1) c.clock (stepping (ticked from c.clock) v) in
         quiet c i v h at live w refl (same_keeps lk (world c h.story) c.clients i v
-        (heart_of c h) at w refl refl refl refl refl refl (h.version.sound i v at).floor refl refl refl tt)
-        (idle_files c i v h at live w live may.0.1 undecided refl (h.filed.filed i v at).reads))
+        (heart_of c h) at w refl refl refl refl refl refl (h.version.sound i v at).floor refl refl refl refl tt)
+        (idle_files c i v h at live w live may.0.1 undecided refl (h.filed.filed i v at).reads
+        (h.filed.filed i v at).aborted))
 
     validate_inv : (k : ℕ) → CanAct lawful lk (bounds_of c) (validate k) v.attempt →
         Inv lawful lk (stepped t lk (validate k) i v c)
@@ -513,7 +527,7 @@ module _ (lawful : RecordLaw) (lk : ℕ → ℕ) where
         let q : Inv lawful lk (record c { clients = slice_set c.clients i w; events = c.events + 1 }) =
         quiet c i v h at live w refl
         (pass_keeps lk (world c h.story) c.clients i v (heart_of c h) at w a x open' may.2.2 fine refl refl refl refl
-        refl refl refl refl refl refl tt) (same_files c i v h at live w live refl refl refl refl refl refl) in
+        refl refl refl refl refl refl refl tt) (same_files c i v h at live w live refl refl refl refl refl refl refl) in
         by_case (λ b. Inv lawful lk (record c {
           clients = slice_set c.clients i (marking (writes_to v.attempt.held k)
               (stepping (validated k n) (cond b (committed_by t w0) w0)));
@@ -528,8 +542,8 @@ module _ (lawful : RecordLaw) (lk : ℕ → ℕ) where
         (λ e. let w : Client = marking (writes_to v.attempt.held k) (stepping (validated k n) (failing v)) in
         quiet c i v h at live w refl (same_keeps lk (world c h.story) c.clients i v
         (heart_of c h) at w refl refl refl refl (sym undecided) refl
-        (h.version.sound i v at).floor refl refl refl tt)
-        (same_files c i v h at live w live refl refl refl (sym undecided) refl refl))
+        (h.version.sound i v at).floor refl refl refl refl tt)
+        (same_files c i v h at live w live refl refl refl (sym undecided) refl refl refl))
 
     pub act_keeps : (e : Action) → CanAct lawful lk (bounds_of c) e v.attempt → Inv lawful lk (stepped t lk e i v c)
     act_keeps begin may = begin_inv c i v h at live t may

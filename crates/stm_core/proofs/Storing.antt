@@ -23,7 +23,8 @@ module _ (lk : ℕ → ℕ) (s : World) (cs : List Client) (id : ℕ) (v w : Cli
     (writes : w.attempt.writes ≡ v.attempt.writes) (stored : w.attempt.stored ≡ v.attempt.stored ++ a ∷ [])
     (phase : decided w ≡ decided v) (rv : w.attempt.rv ≡ v.attempt.rv) (floor : w.floor ≡ v.floor)
     (reads : w.attempt.reads ≡ v.attempt.reads)
-    (passed : w.attempt.passed ≡ v.attempt.passed) (records : w.records ≡ v.records) where
+    (passed : w.attempt.passed ≡ v.attempt.passed) (records : w.records ≡ v.records)
+    (aborted : w.aborted ≡ v.aborted) where
   abbrev after : World
   after = record s { cell = cell }
 
@@ -46,7 +47,7 @@ module _ (lk : ℕ → ℕ) (s : World) (cs : List Client) (id : ℕ) (v w : Cli
   cell_new b f = dite (ℕ_discrete b a) (λ e. rw e (word.here ∙ is_newest)) (λ n. word.else b n ∙ f n)
 
   claims_same : (b c y : ℕ) → Claims w b c y → Claims v b c y
-  claims_same = claims_as v w rv reads wv passed records
+  claims_same = claims_as v w rv reads wv passed records aborted
 
   saw_stays : (m : ℕ) (l : Step) → Saw lk s m l → Saw lk after m l
   saw_stays m (probed k n) p = p

@@ -5,7 +5,7 @@ use mathlib.Core.Logic.{dite}
 use native.Mathlib.Decide.{ℕ_discrete}
 use Rattle.tx_memory.specs.Image.{In}
 use Rattle.stm_core.specs.Client.{Client, Step, probed, fetched, decided, version_of, writes_to}
-use Rattle.stm_core.specs.Version.{World, At, Claims, runs, passes, noted, Saw, IsSound, IsKept, IsBooked}
+use Rattle.stm_core.specs.Version.{World, At, Claims, runs, passes, noted, gave_up, Saw, IsSound, IsKept, IsBooked}
 use Rattle.stm_core.proofs.Lists.{same_at, clash}
 use Rattle.stm_core.proofs.Turns.{Heart, turn_keeps}
 
@@ -16,7 +16,8 @@ module _ (lk : ℕ → ℕ) (s : World) (cs : List Client) (id : ℕ) (v w : Cli
     (u : ℕ) × In (lk a, u) v.attempt.held) (held : w.attempt.held ≡ v.attempt.held)
     (wv : w.attempt.wv ≡ s.clock + 1) (phase : decided w ≡ false) (rv : w.attempt.rv ≡ v.attempt.rv)
     (floor : w.floor ≤ s.clock + 1) (reads : w.attempt.reads ≡ v.attempt.reads)
-    (passed : w.attempt.passed ≡ 0) (records : w.records ≡ v.records) where
+    (passed : w.attempt.passed ≡ 0) (records : w.records ≡ v.records)
+    (aborted : w.aborted ≡ v.aborted) where
   me : IsSound lk s v
   me = h.version.sound id v at
 
@@ -65,6 +66,7 @@ module _ (lk : ℕ → ℕ) (s : World) (cs : List Client) (id : ℕ) (v w : Cli
   claims_same b a x (runs e i) = runs (e ∙ rv) (subst (In (a, x)) reads i)
   claims_same b a x (passes e j l i) = absurd (let l' : j < 0 = subst (λ n. j < n) passed l in omega arith)
   claims_same b a x (noted r i e m) = noted r (subst (In r) records i) e m
+  claims_same b a x (gave_up r i e m) = gave_up r (subst (In r) aborted i) e m
 
   bound : (i : ℕ) (o : Client) (b a x : ℕ) → At cs i o → Claims o b a x → b ≤ s.clock
   bound i o b a x e c = ((h.version.sound i o e).agrees b a x c).1

@@ -5,14 +5,15 @@ use mathlib.Core.Logic.{dite}
 use native.Mathlib.Decide.{ℕ_discrete}
 use Rattle.std.proofs.lemmas.Bool.Decides.{nat_tests}
 use Rattle.tx_memory.specs.Image.{In, Agrees, laid}
-use Rattle.stm_core.specs.Client.{Client, Record, before, inserted, merged, of_renewal, shed, RecordLaw, Stamp}
+use Rattle.stm_core.specs.Client.{Client, Record, Aborted, all_aborted, before, inserted, merged, of_renewal, shed}
+use Rattle.stm_core.specs.Client.{RecordLaw, Stamp}
 use Rattle.stm_core.specs.Client.{version_of, word_before, value_fetched, checked, locked, ticked, validated}
 use Rattle.stm_core.specs.Event.{Action, check, lock, tick, validate, finish, committed_by, stepping, failing, read_too}
 use Rattle.stm_core.specs.Event.{holding, versioned, decides_at_once, won, passes, passing, after, taking, counting}
 use Rattle.stm_core.specs.Core.{Core, IsFreeHanded}
 use Rattle.stm_core.proofs.Steps.{by_case}
 use Rattle.stm_core.specs.Version.{At}
-use Rattle.stm_core.specs.History.{Serial, image_after, Sub, done, keep, skip, all_records, IsShared}
+use Rattle.stm_core.specs.History.{Serial, image_after, image_upto, Sub, done, keep, skip, all_records, IsShared}
 use Rattle.stm_core.specs.Invariant.{now, Sorted, Rule}
 use Rattle.stm_core.proofs.Lists.{nothing_in, by_bool, clash, in_snoc}
 use Rattle.stm_core.proofs.Orders.{in_cons, in_inserted, in_merged, before_asym, behind}
@@ -22,7 +23,8 @@ use Rattle.stm_core.proofs.Eras.{AllOf, AllBefore, in_append, of_is, not_before,
 use Rattle.stm_core.proofs.Lones.{at_map}
 use Rattle.stm_core.proofs.Knowing.{its_floor}
 use Rattle.stm_core.proofs.Renewals.{pre, pre_before, own_of, eqb_no, eqb_yes}
-use Rattle.stm_core.proofs.Renewing.{serial_append, past_serial, past_leads, past_lawful, sorted_of, sorted_append}
+use Rattle.stm_core.proofs.Renewing.{serial_append, past_serial, past_leads, past_lawful, past_agrees, sorted_of}
+use Rattle.stm_core.proofs.Renewing.{sorted_append}
 use Rattle.stm_core.proofs.Conditions.{IsAlone}
 
 -- inserting a record keeps a sorted list sorted, and each of two merged sorted lists keeps its
@@ -163,6 +165,12 @@ module _ (lawful : RecordLaw) (lk : ℕ → ℕ) (c : Core) (h : Rule lawful lk 
     past_leads lawful lk c h i v at free others 0,
     past_lawful lawful lk c h i v at free others 0,
   )
+
+  -- and each of its aborted attempts has read the image of its version
+  pub closes_read : (i : ℕ) (v : Client) → At c.clients i v → IsFreeHanded v → IsAlone c i → (r : Aborted) →
+      In r (all_aborted v) → (r.renewal < c.renewal + 1) × Agrees (image_upto c.first r.renewal r.version v.records)
+      r.reads
+  closes_read i v at free others r m = past_agrees lawful lk c h i v at free others 0 r m
 
   -- a client with all grants is the only one out
   pub all_grants : (i : ℕ) (v : Client) → At c.clients i v → v.is_gathered ≡ false → v.grants ≡ 63 → IsAlone c i

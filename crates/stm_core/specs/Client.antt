@@ -1,6 +1,6 @@
 -- The value of one client, as plain data: its grants, the records of its committed calls, and its
 -- attempt.
-use Rattle.std.specs.Prelude.{◌≡◌, ℕ, ◌+◌, ◌*◌, ◌-◌, ◌/◌, Bool, true, false, cond, eqb, ltb, ◌||◌, ◌&&◌, List, [], ◌∷◌, Option, Some, None}
+use Rattle.std.specs.Prelude.{◌≡◌, ℕ, ◌+◌, ◌*◌, ◌-◌, ◌/◌, Bool, true, false, cond, eqb, ltb, ◌||◌, ◌&&◌, List, [], ◌∷◌, ◌++◌, Option, Some, None}
 use Rattle.stm_core.specs.LockWord.{free_word}
 
 -- one committed call: its reads and writes, and its commit position. The version of a writer is
@@ -80,9 +80,19 @@ pub record Attempt : Type 0 where
   pub lone : Bool
   -- the number of steps that the attempt has made
   pub steps : ℕ
+  -- the number of renewals of the clock before the begin
+  pub renewal : ℕ
   -- the positions of the begin and of the won tick in the list of events
   pub began_at : ℕ
   pub ticked_at : ℕ
+
+-- an aborted attempt: its reads, its read version, its number, and the number of renewals of the
+-- clock before its begin
+pub record Aborted : Type 0 where
+  pub reads : List (ℕ × ℕ)
+  pub version : ℕ
+  pub attempt : ℕ
+  pub renewal : ℕ
 
 -- the value of a client: the state that it keeps from one attempt to the next, and its attempt
 pub record Client : Type 0 where
@@ -95,6 +105,10 @@ pub record Client : Type 0 where
   -- this client gathered. The next begin finds at least this version
   pub floor : ℕ
   pub records : List Record
+  -- the client's aborted attempts before its last one, and those of the clients that it has
+  -- gathered: those of earlier renewals of the clock, and those of the present one
+  pub aborted_before : List Aborted
+  pub aborted : List Aborted
   pub attempt : Attempt
 
 -- a law of records says which tag goes with which reads and which writes
@@ -117,6 +131,32 @@ is_committed _ = false
 -- not decided in this sense
 abbrev pub decided : Client → Bool
 decided v = is_committed v.attempt.phase
+
+-- true if the attempt was decided, as a writer or as a reader, or if there is no attempt
+abbrev pub is_settled : Phase → Bool
+is_settled running = false
+is_settled ending = false
+is_settled _ = true
+
+-- the attempt as an aborted one
+abbrev pub aborted_of : Attempt → Aborted
+aborted_of t = record {
+  reads = t.reads;
+  version = t.rv;
+  attempt = t.number;
+  renewal = t.renewal;
+}
+
+-- the aborted attempts of the present renewal: those in the client's list, and its last attempt
+-- unless that is settled. An attempt that still runs counts as aborted, since it has not decided
+abbrev pub given_up : Client → List Aborted
+given_up v =
+    cond (is_settled v.attempt.phase) v.aborted (v.aborted ++ aborted_of v.attempt ∷ [])
+
+-- all aborted attempts of a client and of those that it has gathered: those of earlier renewals,
+-- and those of the present one
+abbrev pub all_aborted : Client → List Aborted
+all_aborted v = v.aborted_before ++ given_up v
 
 -- the version in a lock word; in the word of a held lock, the old version
 abbrev pub version_of : ℕ → ℕ

@@ -1,6 +1,6 @@
 -- The steps of one client on a word, and the client's value after each step.
 use Rattle.std.specs.Prelude.{ℕ, ◌+◌, ◌-◌, max, Bool, true, false, cond, eqb, leb, ◌||◌, ◌&&◌, List, [], ◌∷◌, ◌++◌, length}
-use Rattle.stm_core.specs.Client.{Attempt, Client, Record, idle, running, ending, committed, finished, Step, nothing, began, probed, fetched, checked, locked, ticked, validated, ended, Stamp, version_of, is_free, writes_to, without, word_before, value_fetched, inserted, merged}
+use Rattle.stm_core.specs.Client.{Attempt, Client, Record, idle, running, ending, committed, finished, Step, nothing, began, probed, fetched, checked, locked, ticked, validated, ended, Stamp, version_of, is_free, writes_to, without, word_before, value_fetched, inserted, merged, given_up, all_aborted}
 use Rattle.stm_core.specs.declared.limits.TheConstants.{MOST_GRANTS}
 
 -- one step of one client: an atomic load, store or read-modify-write of one word
@@ -73,6 +73,7 @@ idle_attempt = record {
   next_from = 0;
   lone = false;
   steps = 0;
+  renewal = 0;
   began_at = 0;
   ticked_at = 0;
 }
@@ -92,10 +93,12 @@ committed_by s v = record v {
   attempt = record v.attempt { phase = committed; stored = [] };
 }
 
--- the client with a new attempt, whose read version is the clock's value n
+-- the client with a new attempt, whose read version is the clock's value n. The attempt before is
+-- aborted unless it is settled
 abbrev pub begun : Stamp → ℕ → Client → Client
 begun s n v = record v {
   floor = n;
+  aborted = given_up v;
   attempt = record idle_attempt {
     number = v.attempt.number + 1;
     phase = running;
@@ -105,6 +108,7 @@ begun s n v = record v {
     next_from = n;
     lone = eqb v.grants MOST_GRANTS;
     steps = 1;
+    renewal = s.renewal;
     began_at = s.place;
   };
 }
@@ -246,6 +250,8 @@ opener = record {
   is_gathered = false;
   floor = 0;
   records = [];
+  aborted_before = [];
+  aborted = [];
   attempt = idle_attempt;
 }
 
@@ -253,21 +259,25 @@ opener = record {
 abbrev pub fresh : Client → Client
 fresh v = record opener { grants = 0; floor = v.floor }
 
--- the client with the other client's records and grants, and the grant of that client itself
+-- the client with the other client's records, aborted attempts and grants, and the grant of that
+-- client itself
 abbrev pub taking : Client → Client → Client
 taking v w = record v {
   grants = v.grants + w.grants + 1;
   floor = max v.floor w.floor;
   records = merged v.records w.records;
+  aborted_before = v.aborted_before ++ w.aborted_before;
+  aborted = v.aborted ++ given_up w;
   attempt = forgetting v.attempt;
 }
 
--- a client after a renewal of the clock: no attempt, and its grants, its attempt's number and its
--- records as before
+-- a client after a renewal of the clock: no attempt, and its grants, its attempt's number, its
+-- records and all its aborted attempts as before
 abbrev pub renewing : Client → Client
 renewing v = record opener {
   grants = v.grants;
   records = v.records;
+  aborted_before = all_aborted v;
   attempt = record idle_attempt { number = v.attempt.number };
 }
 

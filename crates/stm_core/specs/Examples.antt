@@ -1,9 +1,10 @@
 -- Worked examples of the core: lists of events with the records that they decide, worked out by
 -- hand.
 use Rattle.std.specs.Prelude.{◌≡◌, ℕ, true, false, List, [], ◌∷◌, replicate}
-use Rattle.stm_core.specs.Client.{Record}
+use Rattle.stm_core.specs.Client.{Record, Aborted, all_aborted}
 use Rattle.stm_core.specs.Event.{begin, probe, fetch, check, lock, tick, validate, put, release, finish}
-use Rattle.stm_core.specs.Core.{Core, Event, acts, splits, opened}
+use Rattle.stm_core.specs.Core.{Core, Event, acts, splits, gathers, renews, client_of, opened}
+use Rattle.stm_core.specs.History.{image_upto}
 use Rattle.stm_core.specs.Theorem.{free_law, Reaches}
 use Rattle.stm_core.specs.Guards.{stripe_of}
 use Rattle.stm_core.specs.Listed.{decisions, begins}
@@ -95,12 +96,64 @@ abandoned_records =
     }
     ∷ []
 
--- both lists are allowed and decide exactly these records
+-- the abandoned attempt of client 1, as an aborted one
+abbrev pub abandoned_aborts : List Aborted
+abandoned_aborts =
+    record { reads = (9, 0) ∷ []; version = 0; attempt = 1; renewal = 0 } ∷ []
+
+-- an attempt reads word 9 and is abandoned; the clock is renewed, and the next attempt finishes
+abbrev pub carried : List Event
+carried =
+    acts 1 begin ∷ acts 1 (probe 9) ∷ acts 1 (fetch 9) ∷ acts 1 (check 9)
+    ∷ renews 1 50 ∷ acts 1 begin ∷ acts 1 (finish (7 ∷ [])) ∷ []
+
+-- client 2 reads word 9 and abandons its attempt; client 1 gathers client 2
+abbrev pub gathered_attempt : List Event
+gathered_attempt =
+    splits 1
+    ∷ acts 2 begin ∷ acts 2 (probe 9) ∷ acts 2 (fetch 9) ∷ acts 2 (check 9)
+    ∷ gathers 1 2 ∷ []
+
+-- a writer's record of this renewal and version
+abbrev pub writer_at : ℕ → ℕ → List (ℕ × ℕ) → Record
+writer_at renewal version writes = record {
+  tag = [];
+  reads = [];
+  writes = writes;
+  writer = true;
+  version = version;
+  attempt = 1;
+  renewal = renewal;
+  point = 0;
+  client = 1;
+}
+
+-- two writers in two renewals
+abbrev pub two_writers : List Record
+two_writers =
+    writer_at 0 3 ((0, 5) ∷ []) ∷ writer_at 1 1 ((0, 6) ∷ (1, 7) ∷ []) ∷ []
+
+-- the images of `two_writers`, from two words that are 0: before and at the first writer, and
+-- before and at the second one
+pub record WorkedImages : Type 0 where
+  pub before_first : image_upto (0 ∷ 0 ∷ []) 0 2 two_writers ≡ 0 ∷ 0 ∷ []
+  pub at_first : image_upto (0 ∷ 0 ∷ []) 0 3 two_writers ≡ 5 ∷ 0 ∷ []
+  pub before_second : image_upto (0 ∷ 0 ∷ []) 1 0 two_writers ≡ 5 ∷ 0 ∷ []
+  pub at_second : image_upto (0 ∷ 0 ∷ []) 1 1 two_writers ≡ 6 ∷ 7 ∷ []
+
+-- the lists are allowed, decide exactly these records, and leave exactly these aborted attempts.
+-- The images of two writers are those that were worked out
 pub record WorkedLists : Type 0 where
   pub overtaken_is_allowed : IsAllowedList overtaken
   pub overtaken_decides : decided_by overtaken ≡ overtaken_records
   pub abandoned_is_allowed : IsAllowedList abandoned
   pub abandoned_decides : decided_by abandoned ≡ abandoned_records
+  pub abandoned_leaves : all_aborted (client_of abandoned_is_allowed.0 1) ≡ abandoned_aborts
+  pub carried_is_allowed : IsAllowedList carried
+  pub carried_leaves : all_aborted (client_of carried_is_allowed.0 1) ≡ abandoned_aborts
+  pub gathered_is_allowed : IsAllowedList gathered_attempt
+  pub gathered_leaves : all_aborted (client_of gathered_is_allowed.0 1) ≡ abandoned_aborts
+  pub images : WorkedImages
   -- client 1 has begun once after the first four events, and twice after the first five
   pub first_attempt : begins 1 abandoned 4 ≡ 1
   pub second_attempt : begins 1 abandoned 5 ≡ 2

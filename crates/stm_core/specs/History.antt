@@ -1,5 +1,5 @@
 -- Histories: when a list of records is serial, and the image of a version.
-use Rattle.std.specs.Prelude.{◌≡◌, ℕ, ◌<◌, ◌≤◌, leb, cond, true, List, [], ◌∷◌, length}
+use Rattle.std.specs.Prelude.{◌≡◌, ℕ, ◌<◌, ◌≤◌, Bool, leb, ltb, eqb, ◌||◌, ◌&&◌, cond, true, List, [], ◌∷◌, length}
 use Rattle.tx_memory.specs.Image.{In, Agrees, laid}
 use Rattle.stm_core.specs.Client.{Client, Record, merged, RecordLaw}
 
@@ -18,6 +18,17 @@ image_after image (r ∷ rs) = image_after (laid image r.writes) rs
 abbrev pub image_at : List ℕ → ℕ → List Record → List ℕ
 image_at image u [] = image
 image_at image u (r ∷ rs) = image_at (cond (leb r.version u) (laid image r.writes) image) u rs
+
+-- true if the record is of an earlier renewal, or of this renewal with a version of at most u
+abbrev pub is_upto : ℕ → ℕ → Record → Bool
+is_upto n u r = ltb r.renewal n || (eqb r.renewal n && leb r.version u)
+
+-- the image of version u of renewal n: the first image with the writes of all records of earlier
+-- renewals applied, and of those of this renewal of at most that version, in the order of the list
+abbrev pub image_upto : List ℕ → ℕ → ℕ → List Record → List ℕ
+image_upto image n u [] = image
+image_upto image n u (r ∷ rs) =
+    image_upto (cond (is_upto n u r) (laid image r.writes) image) n u rs
 
 -- the first list is a sublist of the second: the second without some of its elements
 pub data Sub {A : Type 0} : List A → List A → Type 0 where

@@ -1,13 +1,13 @@
 -- The version invariant of a whole core.
 use Rattle.std.specs.Prelude.{◌≡◌, ℕ, ◌+◌, ◌≤◌, ◌<◌, ◌⊎◌, cond, eqb, true, false, List, [], ◌∷◌, ◌++◌, length, map, slice_index, sum_by}
-use Rattle.stm_core.specs.Client.{Client, Record, Stamp, Step, probed, fetched, decided, running, version_of, IsFree, word_before, before, shed, of_renewal, RecordLaw}
-use Rattle.tx_memory.specs.Image.{In}
+use Rattle.stm_core.specs.Client.{Client, Record, Aborted, Stamp, is_settled, Step, probed, fetched, decided, running, version_of, IsFree, word_before, before, shed, of_renewal, RecordLaw}
+use Rattle.tx_memory.specs.Image.{In, Agrees}
 use Rattle.stm_core.specs.Event.{check, lock, tick, after, gone}
 use Rattle.stm_core.specs.Guards.{MayAct, Holds}
 use Rattle.stm_core.specs.Core.{Core, bounds_of}
 use Rattle.stm_core.specs.Version.{World, At, Version, Books}
 use Rattle.stm_core.specs.Records.{value_of, wrote_in, Filed}
-use Rattle.stm_core.specs.History.{Serial, image_after}
+use Rattle.stm_core.specs.History.{Serial, image_after, image_upto}
 use Rattle.stm_core.specs.declared.limits.TheConstants.{MOST_GRANTS}
 
 -- the world of a core: its words, and the values and writers that a story gives
@@ -80,6 +80,17 @@ abbrev pub Sorted : List Record → Type 0
 Sorted [] = Unit {0}
 Sorted (x ∷ xs) = ((r : Record) → In r xs → before r x ≡ false) × Sorted xs
 
+-- the aborted attempts of a client are of the renewals that the client says, and each attempt of an
+-- earlier renewal has read one version
+pub record KeepsAborted (first : List ℕ) (past : List Record) (renewal : ℕ) (v : Client)
+    : Type 0 where
+  -- an attempt that is not settled was begun in the present renewal
+  pub begun : is_settled v.attempt.phase ≡ false → v.attempt.renewal ≡ renewal
+  pub now : (r : Aborted) → In r v.aborted → r.renewal ≡ renewal
+  -- all words that an attempt of an earlier renewal has read are in the image of its read version
+  pub before : (r : Aborted) → In r v.aborted_before
+      → (r.renewal < renewal) × Agrees (image_upto first r.renewal r.version past) r.reads
+
 -- the records of earlier renewals are lawful, in order, and serial from the first opening image to
 -- the present one
 pub record Past (lawful : RecordLaw) (first opening : List ℕ) (past : List Record) (renewal : ℕ)
@@ -97,6 +108,9 @@ pub record Past (lawful : RecordLaw) (first opening : List ℕ) (past : List Rec
       → v.records ≡ cond (eqb i keeper) past [] ++ of_renewal renewal v.records
   -- a gathered client has nothing left
   pub are_gone : (i : ℕ) (v : Client) → At cs i v → v.is_gathered ≡ true → v ≡ gone
+  -- the aborted attempts of each client are of the renewals that the client says, and each attempt
+  -- of an earlier renewal has read one version
+  pub aborted : (i : ℕ) (v : Client) → At cs i v → KeepsAborted first past renewal v
 
 -- the whole invariant: that of the present renewal, of solo attempts, of the clock, and of the
 -- records of earlier renewals

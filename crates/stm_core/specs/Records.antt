@@ -4,7 +4,7 @@ use Rattle.std.specs.Prelude.{◌≡◌, ◌≢◌, ℕ, zero, suc, ◌-◌, ◌
 use Rattle.tx_memory.specs.Image.{In}
 use mathlib.Core.Option.{some}
 use lib.ListN.{get_elem?}
-use Rattle.stm_core.specs.Client.{Client, Record, decided, writes_to, before, RecordLaw}
+use Rattle.stm_core.specs.Client.{Client, Record, Aborted, decided, writes_to, before, RecordLaw}
 use Rattle.stm_core.specs.Guards.{is_map}
 use Rattle.stm_core.specs.Version.{At, IsOpen}
 
@@ -69,8 +69,10 @@ module _ (lawful : RecordLaw) (size renewal : ℕ) (story : List (List (ℕ × �
     -- the client's records are in order, and each agrees with the story
     pub ordered : Ordered v.records
     pub told : (r : Record) → In r v.records → IsTold r
-    -- the addresses that the attempt has read are in the region
+    -- the addresses that the attempt has read are in the region, and those that aborted attempts
+    -- of the present renewal have read
     pub reads : AllInside size v.attempt.reads
+    pub aborted : (r : Aborted) → In r v.aborted → AllInside size r.reads
     -- if the client has a write version, its writes are in the region, no address twice. If it is
     -- undecided, the tag, reads and writes are lawful; if it is decided, the writes are those that
     -- the story has for its version

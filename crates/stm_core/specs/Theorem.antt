@@ -1,24 +1,17 @@
 -- The core theorem: the properties of every core that a list of allowed events leads to.
-use Rattle.std.specs.Prelude.{◌≡◌, ◌≢◌, ℕ, suc, ◌<◌, Bool, true, false, List, [], ◌++◌}
+use Rattle.std.specs.Prelude.{◌≡◌, ◌≢◌, ℕ, suc, ◌<◌, true, false, List, [], ◌++◌}
 use Rattle.tx_memory.specs.Image.{In, Agrees}
-use Rattle.stm_core.specs.Client.{Client, Record, decided, Phase, running, ending, RecordLaw}
+use Rattle.stm_core.specs.Client.{Client, Record, Aborted, decided, is_settled, all_aborted, RecordLaw}
 use Rattle.stm_core.specs.Core.{Core, Event, Leads, opened}
 use Rattle.stm_core.specs.Version.{At}
 use Rattle.stm_core.specs.Invariant.{Rule, GoesOnAlone}
-use Rattle.stm_core.specs.History.{Serial, image_after, image_at, Ascending, ByPoint}
+use Rattle.stm_core.specs.History.{Serial, image_after, image_at, image_upto, Ascending, ByPoint}
 use Rattle.stm_core.specs.Guards.{stripe_of}
 use Rattle.stm_core.specs.Listed.{IsOfList}
 
 -- the law under which every record is lawful
 abbrev pub free_law : List ℕ → List (ℕ × ℕ) → List (ℕ × ℕ) → Type 0
 free_law tag reads writes = Unit {0}
-
--- true if the client's last attempt was decided, as a writer or as a reader, or the client has
--- begun none
-abbrev pub is_settled : Phase → Bool
-is_settled running = false
-is_settled ending = false
-is_settled _ = true
 
 -- the history of a core: the decided records of all clients, each once, in the order of their
 -- point steps
@@ -54,6 +47,10 @@ pub record IsSerializable
   -- image of its read version
   pub one_version : (i : ℕ) (v : Client) → At c.clients i v
       → Agrees (image_at c.opening v.attempt.rv present) v.attempt.reads
+  -- every aborted attempt that a client lists, of this renewal or of an earlier one, has read one
+  -- version: all words that it has read are in the image of its read version
+  pub aborted : (i : ℕ) (v : Client) (r : Aborted) → At c.clients i v → In r (all_aborted v)
+      → Agrees (image_upto start.first r.renewal r.version (earlier ++ present)) r.reads
   -- nothing aborts a solo attempt that is no decided writer
   pub lone : (i : ℕ) (v : Client) → At c.clients i v → v.attempt.lone ≡ true → decided v ≡ false
       → GoesOnAlone lawful lk c v

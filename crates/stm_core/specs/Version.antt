@@ -4,7 +4,7 @@ use Rattle.tx_memory.specs.Image.{In}
 use Rattle.stm_core.specs.LockWord.{held_word}
 use mathlib.Core.Option.{some}
 use lib.ListN.{get_elem?}
-use Rattle.stm_core.specs.Client.{Client, Record, Step, probed, fetched, decided, version_of, IsFree, writes_to, base}
+use Rattle.stm_core.specs.Client.{Client, Record, Aborted, Step, probed, fetched, decided, version_of, IsFree, writes_to, base}
 
 -- the words and the story: the value of an address in the image of a version, and whether the
 -- decided writer of a version wrote the address
@@ -24,12 +24,14 @@ abbrev pub IsOpen : Client → Type 0
 IsOpen v = (0 < v.attempt.wv) × (decided v ≡ false)
 
 -- the client has read x at address a, in the image of version b: in its running or last attempt,
--- as a read that passed its validation, or in a record
+-- as a read that passed its validation, in a record, or in an attempt that aborted in the present
+-- renewal
 pub data Claims (v : Client) (b a x : ℕ) : Type 0 where
   runs : b ≡ v.attempt.rv → In (a, x) v.attempt.reads → Claims v b a x
   passes : suc b ≡ v.attempt.wv → (j : ℕ) → j < v.attempt.passed
       → get_elem? v.attempt.reads j ≡ some (a, x) → Claims v b a x
   noted : (r : Record) → In r v.records → b ≡ base r → In (a, x) r.reads → Claims v b a x
+  gave_up : (r : Aborted) → In r v.aborted → b ≡ r.version → In (a, x) r.reads → Claims v b a x
 
 -- the finding of the last step still holds or was overtaken. The version of a probed lock has not
 -- gone back, and a fetched value is the newest unless a newer decided writer wrote the word

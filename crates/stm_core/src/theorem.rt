@@ -17,7 +17,9 @@ pub fn core_theorem_of<L: Law>()
     ensures { EveryListIsSerializable L.lawful }
 {}
 
-/// States that the worked lists of events are allowed and decide exactly their records.
+/// States that the worked lists of events are allowed, decide exactly their records, and leave
+/// exactly their aborted attempts, and that two writers leave the images worked out for four
+/// versions.
 pub fn worked_lists_have_their_records()
     ensures { WorkedLists }
 {}

@@ -1,10 +1,10 @@
 -- A commit adds its record behind all that its client had.
 use Rattle.std.proofs.Common.{◌≡◌, ◌⊎◌, inl, inr, ℕ, zero, suc, ◌+◌, ◌*◌, ◌<◌, ◌≤◌, Bool, true, false, cond, eqb, ltb}
-use Rattle.std.proofs.Common.{◌||◌, ◌&&◌, List, [], ◌∷◌, ◌++◌, refl, sym, ap, subst, ◌∙◌, arith}
+use Rattle.std.proofs.Common.{◌||◌, ◌&&◌, List, [], ◌∷◌, ◌++◌, append_assoc, refl, sym, ap, subst, ◌∙◌, arith}
 use Rattle.std.proofs.lemmas.Bool.Decides.{nat_tests}
 use mathlib.Core.Option.{some, some-injective, some-ne-none}
 use Rattle.tx_memory.specs.Image.{In}
-use Rattle.stm_core.specs.Client.{Client, Record, before, rank, inserted}
+use Rattle.stm_core.specs.Client.{Client, Record, before, rank, inserted, is_settled, aborted_of, given_up, all_aborted}
 use Rattle.stm_core.specs.Event.{begin, finish}
 use Rattle.stm_core.proofs.Lists.{by_bool}
 use Rattle.stm_logs.specs.Log.{LogValue}
@@ -16,7 +16,7 @@ use Rattle.stm_attempt.specs.declared.conflict.Stop.{Stop}
 use Rattle.stm_attempt.proofs.Named.{apart, same_attempt}
 use Rattle.stm_object.specs.declared.place.CommitPosition.{CommitPosition}
 use Rattle.stm_object.specs.Places.{place_of}
-use Rattle.stm_object.specs.History.{IsUnplaced, AddsRecord, AddsAt}
+use Rattle.stm_object.specs.History.{IsUnplaced, AddsRecord, AddsAt, AddsAborted, AddsNoAborted}
 
 record_tag : (region : RegionShown) (tag : List ℕ) (v : Client) (pairs : List (ℕ × ℕ)) (version : ℕ)
     → (commit_record region tag v pairs version).tag ≡ tag
@@ -208,8 +208,62 @@ finish_commits region region' tag rv n c c0 c1 c2 begun same ended free =
       versioned = refl;
       known = ap (λ (x : ClientShown). x.value.floor) ended ∙ floor1;
       free = free;
+      settled = ap (λ (x : ClientShown). is_settled x.value.attempt.phase) ended;
       same = same_attempt c1.value c2.value (ap (λ (x : ClientShown). apart x.value) ended);
       steps = λ _. ap (λ (x : ClientShown). x.value.attempt.steps) ended;
+    }
+
+-- the aborted attempts that a client has when an attempt has begun and read
+begun_aborted : (region : RegionShown) (rv : ℕ) (c c0 : ClientShown) (v last : Client) → c0 ≡ acted region begin rv c
+    → still v ≡ still c0.value → last.aborted_before ≡ v.aborted_before → last.aborted ≡ v.aborted
+    → (last.aborted_before ≡ c.value.aborted_before) × (last.aborted ≡ given_up c.value)
+begun_aborted region rv c c0 v last begun same before now = (
+  before ∙ (ap (λ (x : Client). x.aborted_before) same ∙ ap (λ (x : ClientShown). x.value.aborted_before) begun),
+  now ∙ (ap (λ (x : Client). x.aborted) same ∙ ap (λ (x : ClientShown). x.value.aborted) begun),
+)
+
+-- an attempt that ended undecided is listed as aborted
+listed : (region : RegionShown) (rv : ℕ) (c c0 : ClientShown) (v last : Client) → c0 ≡ acted region begin rv c
+    → still v ≡ still c0.value → last.attempt.renewal ≡ v.attempt.renewal → last.aborted_before ≡ v.aborted_before
+    → last.aborted ≡ v.aborted → is_settled last.attempt.phase ≡ false → AddsAborted region c.value last
+listed region rv c c0 v last begun same renewal before now unsettled =
+    let h = begun_aborted region rv c c0 v last begun same before now in
+    record {
+      renewal = renewal ∙ (ap (λ (x : Client). x.attempt.renewal) same
+          ∙ ap (λ (x : ClientShown). x.value.attempt.renewal) begun);
+      listed = ap (λ b. last.aborted_before ++ cond b last.aborted (last.aborted ++ aborted_of last.attempt ∷ []))
+          unsettled
+          ∙ (ap (λ l. l ++ (last.aborted ++ aborted_of last.attempt ∷ [])) h.0
+          ∙ (ap (λ l. c.value.aborted_before ++ (l ++ aborted_of last.attempt ∷ [])) h.1
+          ∙ sym (append_assoc c.value.aborted_before (given_up c.value) (aborted_of last.attempt ∷ []))));
+    }
+
+-- so is one that was given up while it ran, and one whose commit stopped
+pub abort_listed : (region : RegionShown) (rv : ℕ) (c c0 : ClientShown) (v last : Client)
+    → c0 ≡ acted region begin rv c → still v ≡ still c0.value → is_settled v.attempt.phase ≡ false → last ≡ v
+    → AddsAborted region c.value last
+abort_listed region rv c c0 v last begun same unsettled end =
+    subst (λ (x : Client). AddsAborted region c.value x) (sym end)
+    (listed region rv c c0 v v begun same refl refl refl unsettled)
+
+pub stop_listed : (region region' : RegionShown) (rv : ℕ) (log : LogValue) (s : Stop) (c c0 : ClientShown)
+    (v v2 last : Client) → c0 ≡ acted region begin rv c → still v ≡ still c0.value → HasStopped region' log s v v2
+    → last ≡ v2 → AddsAborted region c.value last
+stop_listed region region' rv log s c c0 v v2 last begun same stopped end =
+    subst (λ (x : Client). AddsAborted region c.value x) (sym end)
+    (listed region rv c c0 v v2 begun same stopped.same.renewal stopped.same.aborted_before stopped.same.aborted
+    stopped.unsettled)
+
+-- an attempt that committed is not
+pub commit_unlisted : (region region' : RegionShown) (tag : List ℕ) (pairs : List (ℕ × ℕ)) (rv version : ℕ)
+    (c c0 : ClientShown) (v v2 last : Client) → c0 ≡ acted region begin rv c → still v ≡ still c0.value
+    → HasCommitted region' tag pairs v v2 version → last ≡ v2 → AddsNoAborted c.value last
+commit_unlisted region region' tag pairs rv version c c0 v v2 last begun same done end =
+    let h = begun_aborted region rv c c0 v v2 begun same done.same.aborted_before done.same.aborted in
+    record {
+      same = ap (λ (x : Client). all_aborted x) end
+          ∙ (ap (λ b. v2.aborted_before ++ cond b v2.aborted (v2.aborted ++ aborted_of v2.attempt ∷ [])) done.settled
+          ∙ (ap (λ l. l ++ v2.aborted) h.0 ∙ ap (λ l. c.value.aborted_before ++ l) h.1));
     }
 
 -- what an attempt that made no record keeps

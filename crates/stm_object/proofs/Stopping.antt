@@ -2,8 +2,8 @@
 use Rattle.std.proofs.lemmas.Bool.Decides.{nat_tests}
 use Rattle.std.proofs.Common.{◌≡◌, ℕ, zero, suc, ◌+◌, ◌≤◌, Bool, true, false, List, [], ◌∷◌, ◌++◌, Option, Some, Result}
 use Rattle.std.proofs.Common.{Ok, Err, is_some, nat_lt, ◌&&◌}
-use Rattle.std.proofs.Common.{IfOk, IfErr, inr, refl, sym, ap, ◌∙◌, subst, arith}
-use Rattle.stm_core.specs.Client.{Client, Record}
+use Rattle.std.proofs.Common.{IfOk, IfErr, MatchResult, append_assoc, append-nil, inr, refl, sym, ap, ◌∙◌, subst, arith}
+use Rattle.stm_core.specs.Client.{Client, Record, aborted_of, all_aborted}
 use Rattle.stm_core.specs.Guards.{stripe_of}
 use Rattle.stm_logs.specs.Log.{LogValue, log_pairs}
 use Rattle.stm_region.specs.Shown.{RegionShown, ClientShown}
@@ -16,7 +16,7 @@ use Rattle.stm_attempt.specs.declared.conflict.Stop.TheVariants as stop
 use Rattle.stm_object.specs.declared.place.CommitPosition.{CommitPosition}
 use Rattle.stm_object.specs.Object.{Specification, IsFitting, Does}
 use Rattle.stm_object.specs.History.{AddsAt, WritesOnlyChanges, RecordsEntry, WasInOrder, IsAlone, IsNoConflict}
-use Rattle.stm_object.specs.History.{WasRead}
+use Rattle.stm_object.specs.History.{WasRead, AddsAborted, AddsNoAborted, GrowsAborted}
 use Rattle.stm_object.specs.History.{ConflictWasShown, AttemptedOnce, LeadsOn, IsNear, IsUnplaced}
 use Rattle.stm_object.specs.History.{WouldWriteEntry, IsStopOfEntry, AbortedTimes, met_in, AreTries, HasCalledAt}
 use Rattle.stm_object.specs.Tracing.{Trace, HasTracedOne, conflict_in, tally_with, HasTallied}
@@ -50,7 +50,20 @@ pub record Trying {T : Type 0} (Shows : Conflict → Client → Type 0) (more : 
   pub floor : v.floor ≤ v'.floor
   pub records : v'.records ≡ v.records
   pub unplaced : IsUnplaced v'
+  pub aborted : GrowsAborted v v'
   pub alone : IsAlone v → v' ≡ v
+
+-- aborted attempts of two attempts, one after the other
+pub grows_on : (v w v' : Client) → GrowsAborted v w → GrowsAborted w v' → GrowsAborted v v'
+grows_on v w v' g h = (
+  g.0 ++ h.0,
+  h.1 ∙ (ap (λ l. l ++ h.0) g.1 ∙ append_assoc (all_aborted v) g.0 h.0),
+)
+
+pub grows_by : {A : Type 0} (region : RegionShown) (v v' : Client) (result : Result A Stop)
+    → MatchResult result (λ _. AddsNoAborted v v') (λ _. AddsAborted region v v') → GrowsAborted v v'
+grows_by region v v' (Ok a) h = ([], h.same ∙ sym (append-nil (all_aborted v)))
+grows_by region v v' (Err e) h = (aborted_of v'.attempt ∷ [], h.listed)
 
 pub trying_first : {T : Type 0} (Shows : Conflict → Client → Type 0) (more : Option Conflict → T → T) (tries : ℕ)
     (v : Client) (t : T) → IsUnplaced v → Trying Shows more tries tries v v t t
@@ -63,6 +76,7 @@ trying_first Shows more tries v t unplaced = record {
   floor = omega arith;
   records = refl;
   unplaced = unplaced;
+  aborted = ([], sym (append-nil (all_aborted v)));
   alone = λ a. refl;
 }
 
@@ -70,8 +84,10 @@ pub trying_next : {T : Type 0} (Shows : Conflict → Client → Type 0) (more : 
     (tries left left' : ℕ) (v w v' : Client) (t0 t t' : T) (conflict : Conflict)
     → Trying Shows more tries left v w t0 t → left ≡ left' + 1 → v'.attempt.number ≡ w.attempt.number + 1
     → v'.records ≡ w.records → v'.grants ≡ w.grants → Shows conflict v' → t' ≡ more (Some conflict) t
-    → w.floor ≤ v'.floor → IsUnplaced v' → (IsAlone w → ⊥) → Trying Shows more tries left' v v' t0 t'
-trying_next Shows more tries left left' v w v' t0 t t' conflict h less next records grants was told low unplaced not =
+    → w.floor ≤ v'.floor → IsUnplaced v' → GrowsAborted w v' → (IsAlone w → ⊥)
+    → Trying Shows more tries left' v v' t0 t'
+trying_next Shows more tries left left' v w v' t0 t t' conflict h less next records grants was told low unplaced grows
+    not =
     record {
       missed = suc h.missed;
       count = let c = h.count in omega (arith, c, less);
@@ -87,6 +103,7 @@ trying_next Shows more tries left left' v w v' t0 t t' conflict h less next reco
       floor = let a = h.floor in omega (arith, a, low);
       records = records ∙ h.records;
       unplaced = unplaced;
+      aborted = grows_on v w v' h.aborted grows;
       alone = λ a. absurd (not (h.grants ∙ a));
     }
 
@@ -329,6 +346,7 @@ module _ {E : Type 0} (o : Specification E) {A : Type 0} (region : RegionShown) 
         once = λ a. one.attempt ∙ ap (λ (x : Client). x.attempt.number + 1) (h.alone a);
         near = λ a. let e = ap (λ (x : Client). x.floor) (h.alone a) in let n = one.near (h.grants ∙ a) in
             subst (λ (floor : ℕ). IsNear reads region.last floor v'.floor result) e n;
+        aborted = grows_on v w v' h.aborted (grows_by region w v' result one.aborted);
         attempts = tried more tries left left' v w v' t0 t h less one.attempt;
         stopped = last_stop tries left v w v' result
             (let n = misses_count Shown h.missed v w h.misses in let c = h.count in omega (arith, n, c))

@@ -1,6 +1,6 @@
 -- What is traced of attempts.
 use Rattle.std.proofs.Common.{◌≡◌, ◌≤◌, ℕ, ◌+◌, Bool, true, false, List, [], ◌∷◌, ◌++◌, length, Option, Some, Result}
-use Rattle.std.proofs.Common.{Ok}
+use Rattle.std.proofs.Common.{Ok, MatchResult}
 use Rattle.std.proofs.Common.{Err, IfOk, refl, sym, ap, subst, ◌∙◌, append_assoc, append-nil, length-append, arith}
 use Rattle.std.specs.FinMap.{entries, empty}
 use Rattle.tx_memory.specs.Pairs.{map_of}
@@ -15,7 +15,8 @@ use Rattle.stm_attempt.specs.declared.conflict.Stop.{Stop}
 use Rattle.stm_region.specs.Findings.{StandsOn}
 use Rattle.stm_attempt.specs.Meaning.{memory_of, IsStanding, Origin, origin_of}
 use Rattle.stm_object.specs.Tracing.{Trace, HasNoAccess, AppendsTrace, IsOfAdded, IsOfEnd, AreAborted, AreOfEnd}
-use Rattle.stm_object.specs.Tracing.{HasTraced, IsReaderAt, IsTraceOfAborted, IsNextAborted}
+use Rattle.stm_object.specs.Tracing.{HasTraced, IsReaderAt, IsTraceOfAborted, IsNextAborted, IsListedAborted}
+use Rattle.stm_object.specs.History.{AddsAborted, AddsNoAborted}
 use Rattle.stm_object.specs.declared.place.CommitPosition.{CommitPosition}
 use Rattle.stm_object.specs.Places.{place_of}
 use Rattle.stm_object.specs.Tracing.{HasTracedCommit, HasTracedAbort, HasTracedOne}
@@ -204,30 +205,35 @@ one_aborted why fits here accesses position first before after v w last was f e 
 
 module _ (fits : List ℕ → Type 0) (region : RegionShown) where
   given_up_more : (v : Client) (ts : List Trace) (w w' : Client) (t : Trace) → AreAborted fits region v ts w →
-      IsNextAborted fits region w w' t → AreAborted fits region v (ts ++ (t ∷ [])) w'
-  given_up_more v [] w w' t e n = (w', subst (λ (x : Client). IsNextAborted fits region x w' t) e n, refl)
+      IsListedAborted fits region w w' t → AreAborted fits region v (ts ++ (t ∷ [])) w'
+  given_up_more v [] w w' t e n = (w', subst (λ (x : Client). IsListedAborted fits region x w' t) e n, refl)
   given_up_more v (x ∷ ts) w w' t h n = (h.0, h.1, given_up_more h.0 ts w w' t h.2 n)
 
 -- the record of an attempt that was answered is at a version that the client knew before, or at a later one
 abbrev pub IsLater : {A E : Type 0} → Result A E → Client → Client → Type 0
 IsLater end w w' = IfOk end (λ _. (t : Trace) → IsOfAdded w w' t → w.floor ≤ t.place.version)
 
+-- the aborted attempts after an attempt with this result
+abbrev pub Lists : {A E : Type 0} → RegionShown → Result A E → Client → Client → Type 0
+Lists region end w w' = MatchResult end (λ _. AddsNoAborted w w') (λ _. AddsAborted region w w')
+
 of_end : (fits : List ℕ → Type 0) (region : RegionShown) {A E : Type 0} (end : Result A E) (v w w' : Client)
     (before : List Trace) (t : Trace) → w.records ≡ v.records → w'.attempt.number ≡ w.attempt.number + 1 →
-    IsLater end w w' → AreAborted fits region v before w → IsOfEnd fits region end w w' t →
+    IsLater end w w' → Lists region end w w' → AreAborted fits region v before w → IsOfEnd fits region end w w' t →
     AreOfEnd fits region end v w' (before ++ (t ∷ []))
-of_end fits region (Ok a) v w w' before t same next later g is = (
+of_end fits region (Ok a) v w w' before t same next later lists g is = (
   before,
   t,
   refl,
-  (w, g, later t is, next),
+  (w, g, later t is, next, lists.same),
   record {
     added = is.added;
     records = is.records ∙ ap (λ (rs : List Record). rs ++ (is.added ∷ [])) same;
     is = is.is;
   },
 )
-of_end fits region (Err e) v w w' before t same next later g is = given_up_more fits region v before w w' t g is
+of_end fits region (Err e) v w w' before t same next later lists g is =
+    given_up_more fits region v before w w' t g (is, lists)
 
 -- these attempts were made, and all of them given up
 abbrev pub AllGivenUp : (List ℕ → Type 0) → RegionShown → Client → Client → Option (List Trace) → Option (List Trace)
@@ -244,11 +250,11 @@ none_given_up fits region v before = λ all is. (all, [], is, sym (append-nil al
 more_of_end : (fits : List ℕ → Type 0) (region : RegionShown) {A E : Type 0} (end : Result A E) (v w w' : Client)
     (a b c : Option (List Trace)) → AllGivenUp fits region v w a b →
     AppendsTrace (IsOfEnd fits region end w w') b c → w'.attempt.number ≡ w.attempt.number + 1 →
-    w.records ≡ v.records → IsLater end w w' → (all : List Trace) → c ≡ Some all →
+    w.records ≡ v.records → IsLater end w w' → Lists region end w w' → (all : List Trace) → c ≡ Some all →
     (earlier : List Trace) × (more : List Trace) × (a ≡ Some earlier)
     × (all ≡ earlier ++ more) × AreOfEnd fits region end v w' more
     × (v.attempt.number + length more ≡ w'.attempt.number)
-more_of_end fits region end v w w' a b c h one next same later all is =
+more_of_end fits region end v w w' a b c h one next same later lists all is =
     let o = one all is in
     let t = h o.0 o.2 in
     let n = t.5 in
@@ -258,7 +264,7 @@ more_of_end fits region end v w w' a b c h one next same later all is =
       t.2,
       o.3 ∙ (ap (λ (l : List Trace). l ++ (o.1 ∷ [])) t.3 ∙ append_assoc t.0 t.1
           (o.1 ∷ [])),
-      of_end fits region end v w w' t.1 o.1 same next later t.4 o.4,
+      of_end fits region end v w w' t.1 o.1 same next later lists t.4 o.4,
       omega (arith, n, long, next),
     )
 
@@ -266,15 +272,16 @@ more_of_end fits region end v w w' a b c h one next same later all is =
 pub traced_last : (fits : List ℕ → Type 0) (region : RegionShown) {A E : Type 0} (answer end : Result A E)
     (v w w' : Client) (a b c : Option (List Trace)) → answer ≡ end → AllGivenUp fits region v w a b →
     AppendsTrace (IsOfEnd fits region end w w') b c → w'.attempt.number ≡ w.attempt.number + 1 →
-    w.records ≡ v.records → IsLater end w w' → HasTraced fits region answer v w' a c
-traced_last fits region answer end v w w' a b c is h one next same later =
-    rw is (record { each = more_of_end fits region end v w w' a b c h one next same later })
+    w.records ≡ v.records → IsLater end w w' → Lists region end w w' → HasTraced fits region answer v w' a c
+traced_last fits region answer end v w w' a b c is h one next same later lists =
+    rw is (record { each = more_of_end fits region end v w w' a b c h one next same later lists })
 
 -- the next attempt was given up too
 pub traced_next : (fits : List ℕ → Type 0) (region : RegionShown) {A E : Type 0} (end : Result A E) (why : E)
     (v w w' : Client) (a b c : Option (List Trace)) → end ≡ Err why → AllGivenUp fits region v w a b →
     AppendsTrace (IsOfEnd fits region end w w') b c → w'.attempt.number ≡ w.attempt.number + 1 →
-    w.records ≡ v.records → AllGivenUp fits region v w' a c
-traced_next fits region {A = A} end why v w w' a b c is h one next same =
+    w.records ≡ v.records → Lists region end w w' → AllGivenUp fits region v w' a c
+traced_next fits region {A = A} end why v w w' a b c is h one next same lists =
     more_of_end fits region {A = A} (Err why) v w w' a b c h
     (subst (λ (r : Result A _). AppendsTrace (IsOfEnd fits region r w w') b c) is one) next same tt
+    (subst (λ (r : Result A _). Lists region r w w') is lists)

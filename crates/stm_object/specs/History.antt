@@ -3,7 +3,7 @@ use Rattle.std.specs.Prelude.{◌≡◌, ◌≢◌, ◌⊎◌, ℕ, zero, suc, �
 use Rattle.std.specs.Prelude.{List, [], ◌∷◌, ◌++◌, length, Result, Ok, Err, IfOk, IfErr}
 use Rattle.std.specs.Prelude.{MatchResult}
 use Rattle.tx_memory.specs.Image.{In}
-use Rattle.stm_core.specs.Client.{Client, Record, rank}
+use Rattle.stm_core.specs.Client.{Client, Record, Aborted, aborted_of, all_aborted, rank}
 use Rattle.stm_core.specs.Core.{IsFreeHanded}
 use Rattle.stm_core.specs.History.{Sub, all_records, image_after}
 use Rattle.stm_core.specs.Guards.{stripe_of}
@@ -191,6 +191,20 @@ ConflictWasShown o region entry changes reads conflict v = WasRead region confli
     ⊎ ((log : LogValue) × (reads ≡ false) × WouldWriteEntry o region entry changes log v
     × IsCommitConflict (stripe_of region.stripes) log conflict v)
 
+-- the client's next attempt was begun in this renewal and aborted: it is the last one of the
+-- client's aborted attempts, after those before it
+pub record AddsAborted (region : RegionShown) (v v' : Client) : Type 0 where
+  pub renewal : v'.attempt.renewal ≡ region.renewal
+  pub listed : all_aborted v' ≡ all_aborted v ++ aborted_of v'.attempt ∷ []
+
+-- the client has no more aborted attempts than before
+pub record AddsNoAborted (v v' : Client) : Type 0 where
+  pub same : all_aborted v' ≡ all_aborted v
+
+-- the aborted attempts that the client had before stay, in their order, before any new ones
+abbrev pub GrowsAborted : Client → Client → Type 0
+GrowsAborted v v' = (more : List Aborted) × (all_aborted v' ≡ all_aborted v ++ more)
+
 -- one attempt was made, which left no record and showed a conflict
 pub record AbortedOnce (Shows : ConflictMet → Client → Type 0) (v v' : Client) : Type 0 where
   pub next : v'.attempt.number ≡ v.attempt.number + 1
@@ -266,6 +280,8 @@ pub record AttemptedOnce {A E : Type 0} (o : Specification E) (region : RegionSh
   pub spares : WritesOnlyChanges reads changes result v v'
   pub alone : IsAlone v → IfErr result (λ stop. IsNoConflict stop)
   pub near : IsAlone v → IsNear reads region.last v.floor v'.floor result
+  -- without an answer, the attempt is one more aborted attempt of the client
+  pub aborted : MatchResult result (λ _. AddsNoAborted v v') (λ _. AddsAborted region v v')
   pub stopped : IfErr result (λ stop. IsStopOfEntry o region entry changes reads 1 stop v v')
 
 -- the effect of a call of a transaction with at most `tries` attempts: the record that it adds and
@@ -287,6 +303,7 @@ pub record HasCalledAt {A E : Type 0} (o : Specification E) (region : RegionShow
   pub alone : IsAlone v → IfErr result (λ stop. IsNoConflict stop)
   pub once : IsAlone v → v'.attempt.number ≡ v.attempt.number + 1
   pub near : IsAlone v → IsNear reads region.last v.floor v'.floor result
+  pub aborted : GrowsAborted v v'
   pub attempts : AreTries (λ conflict w. ConflictWasShown o region entry changes reads conflict w)
       tries v v'
   pub stopped : IfErr result (λ stop. IsStopOfEntry o region entry changes reads tries stop v v')

@@ -5,7 +5,7 @@ use Rattle.std.specs.FinMap.{entries, empty}
 use Rattle.tx_memory.specs.Pairs.{map_of}
 use Rattle.tx_memory.specs.declared.access.Access.{Access}
 use Rattle.tx_memory.specs.Accesses.{reads_behind, writes_behind, are_right}
-use Rattle.stm_core.specs.Client.{Client, Record}
+use Rattle.stm_core.specs.Client.{Client, Record, all_aborted}
 use Rattle.stm_region.specs.Shown.{RegionShown}
 use Rattle.stm_region.specs.Findings.{StandsOn}
 use Rattle.stm_attempt.specs.declared.conflict.Conflict.{Conflict as ConflictMet}
@@ -13,7 +13,7 @@ use Rattle.stm_attempt.specs.declared.conflict.Stop.{Stop}
 use Rattle.stm_attempt.specs.declared.conflict.Stop.TheVariants.{Memory, Conflict, Spent}
 use Rattle.stm_object.specs.declared.place.CommitPosition.{CommitPosition}
 use Rattle.stm_object.specs.Places.{place_of, reader_at}
-use Rattle.stm_object.specs.History.{met_in, AreTries}
+use Rattle.stm_object.specs.History.{met_in, AreTries, AddsAborted}
 
 -- an attempt that has ended: whether it committed; the commit position of its record, or of a
 -- reader at its read version if it aborted; and its reads and writes, in this order
@@ -99,11 +99,16 @@ module _ (fits : List ℕ → Type 0) (region : RegionShown) where
       (before after : Option (List Trace)) : Type 0 where
     pub one : AppendsTrace (IsOfEnd result v v') before after
 
+  -- the client's next attempt aborted, this is its trace, and it is one more aborted attempt of the
+  -- client
+  abbrev pub IsListedAborted : Client → Client → Trace → Type 0
+  IsListedAborted v v' t = IsNextAborted v v' t × AddsAborted region v v'
+
   -- attempts with these traces were made one after the other, and all of them aborted
   -- Not said: that a value of the client between two of the attempts is one that the client had.
   abbrev pub AreAborted : Client → List Trace → Client → Type 0
   AreAborted v [] v' = v' ≡ v
-  AreAborted v (t ∷ traces) v' = (w : Client) × IsNextAborted v w t × AreAborted w traces v'
+  AreAborted v (t ∷ traces) v' = (w : Client) × IsListedAborted v w t × AreAborted w traces v'
 
   -- the attempts of a call with this result: all aborted, except that with an answer the last one
   -- made the added record, at a version that is at least the version that the client knew before
@@ -111,7 +116,8 @@ module _ (fits : List ℕ → Type 0) (region : RegionShown) where
   AreOfEnd (Ok a) v v' traces = (before : List Trace) × (last : Trace)
       × (traces ≡ before ++ (last ∷ []))
       × ((w : Client) × AreAborted v before w × (w.floor ≤ last.place.version)
-      × (v'.attempt.number ≡ w.attempt.number + 1)) × IsOfAdded v v' last
+      × (v'.attempt.number ≡ w.attempt.number + 1) × (all_aborted v' ≡ all_aborted w))
+      × IsOfAdded v v' last
   AreOfEnd (Err e) v v' traces = AreAborted v traces v'
 
   -- the attempts of a call with this result are traced after the others: each attempt of the call,

@@ -1,16 +1,17 @@
 -- The opening meets the invariant, and the properties of a region at its end.
 use Rattle.std.proofs.Common.{◌≡◌, ℕ, zero, suc, ◌+◌, ◌-◌, ◌^◌, ◌<◌, List, [], ◌∷◌, ◌++◌, length}
-use Rattle.std.proofs.Common.{drop, replicate, slice_index, refl, sym, ap, ◌∙◌, subst, arith}
+use Rattle.std.proofs.Common.{drop, replicate, slice_index, append-nil, refl, sym, ap, ◌∙◌, subst, arith}
+use Rattle.tx_memory.specs.Image.{Agrees}
 use Rattle.std.proofs.lemmas.List.{length-replicate}
 use mathlib.Core.Option.{some}
 use lib.ListN.{get_elem?}
 use Rattle.atomic_table.specs.Table.{State, opening, Final, Seen}
-use Rattle.stm_core.specs.Client.{Client, RecordLaw}
+use Rattle.stm_core.specs.Client.{Client, all_aborted, RecordLaw}
 use Rattle.stm_core.specs.Core.{Core, opened, begun_on, IsFreeHanded}
 use Rattle.stm_core.specs.Event.{opener, renewing}
-use Rattle.stm_core.specs.History.{Serial, image_after}
+use Rattle.stm_core.specs.History.{Serial, image_after, image_upto}
 use Rattle.stm_core.proofs.Renewing.{opening_rules, begins_rules, past_before}
-use Rattle.stm_core.proofs.Whole.{closes, all_grants, knows, own_sorted}
+use Rattle.stm_core.proofs.Whole.{closes, closes_read, all_grants, knows, own_sorted}
 use Rattle.stm_region.specs.Shown.{Opened, RegionShown, opened_with}
 use Rattle.stm_core.specs.Guards.{stripe_of}
 use Rattle.stm_region.specs.declared.layout.TheConstants.{FIRST_LOCK}
@@ -149,6 +150,9 @@ module _ (fits : List ℕ → Type 0) (lawful : RecordLaw) (r : RegionShown) whe
         cells = cells;
         abides = known.2;
         sorted = own_sorted lawful (stripe_of r.stripes) c h.rule id v at';
+        aborted = λ x m. let q = closes_read lawful (stripe_of r.stripes) c h.rule id v at' free only x m in
+            subst (λ image. (x.renewal < r.renewal + 1) × Agrees (image_upto image x.renewal x.version v.records)
+            x.reads) h.first (subst (λ n. x.renewal < n + 1) h.renewal q.0, q.1);
         eras = λ x m. (let p = past_before lawful (stripe_of r.stripes) c h.rule id v at' free only 0 x m in let e =
             h.renewal in omega arith);
         serial = subst (λ image. Serial image v.records) h.first known.0;
@@ -197,7 +201,8 @@ reopens {S} fits lawful r v words version last h free may f one = record {
   first = refl;
   renewal = refl;
   rule = begins_rules lawful (stripe_of r.stripes) r.first words (r.renewal + 1) last r.stripes
-      (renewing v) refl may.2 h.serial (sym h.newest) h.abides h.eras h.sorted;
+      (renewing v) (ap (λ l. record (renewing v) { aborted_before = l }) (sym (append-nil (all_aborted v))))
+      may.2 h.serial (sym h.newest) h.abides h.eras h.sorted h.aborted;
   traced =
       let alone = all_grants lawful (stripe_of r.stripes) h.core h.rule h.number v h.member free.0 may.2 in
       subst (λ ws. IsTraced lawful record {

@@ -2,11 +2,11 @@
 use Rattle.std.specs.Prelude.{◌≡◌, ℕ, ◌+◌, ◌<◌, List, length}
 use mathlib.Core.Option.{some}
 use lib.ListN.{get_elem?}
-use Rattle.tx_memory.specs.Image.{In}
-use Rattle.stm_core.specs.Client.{Client, Record, RecordLaw}
+use Rattle.tx_memory.specs.Image.{In, Agrees}
+use Rattle.stm_core.specs.Client.{Client, Record, Aborted, all_aborted, RecordLaw}
 use Rattle.stm_core.specs.Core.{Core}
 use Rattle.stm_core.specs.Invariant.{Rule, Sorted}
-use Rattle.stm_core.specs.History.{Serial, image_after}
+use Rattle.stm_core.specs.History.{Serial, image_after, image_upto}
 use Rattle.stm_region.specs.Shown.{RegionShown, opened_with}
 use Rattle.stm_core.specs.Guards.{stripe_of}
 use Rattle.stm_region.specs.Traced.{IsTraced}
@@ -37,3 +37,8 @@ pub record Ends (lawful : RecordLaw) (region : RegionShown)
   -- the records are in order, each of this renewal or an earlier one
   pub sorted : Sorted v.records
   pub eras : (r : Record) → In r v.records → r.renewal < region.renewal + 1
+  -- every aborted attempt of this renewal or an earlier one has read one version: all words that it
+  -- has read are in the image of its read version
+  pub aborted : (r : Aborted) → In r (all_aborted v)
+      → (r.renewal < region.renewal + 1)
+      × Agrees (image_upto region.first r.renewal r.version v.records) r.reads

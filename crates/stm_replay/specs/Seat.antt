@@ -4,13 +4,15 @@ use Rattle.stm_core.specs.Client.{Client}
 use Rattle.stm_core.specs.Event.{Action, after}
 
 -- a client's value without the fields that no condition of an event looks at. These are the
--- records and the floor, and of the attempt its number, its number of steps, whether it is solo
--- and whether the last lock was its own
+-- records, the aborted attempts and the floor, and of the attempt its number, its renewal, its
+-- number of steps, whether it is solo and whether the last lock was its own
 abbrev pub blank : Client → Client
 blank c = record c {
   floor = 0;
   records = [];
-  attempt = record c.attempt { number = 0; steps = 0; lone = false; mine = false };
+  aborted_before = [];
+  aborted = [];
+  attempt = record c.attempt { number = 0; renewal = 0; steps = 0; lone = false; mine = false };
 }
 
 -- the kept part of a client's value after a step at a position in the list of events. No step

@@ -9,7 +9,7 @@ use Rattle.vac_model.specs.declared.limits.TheConstants.{MOST_TRIES}
 use Rattle.vac_manager.specs.declared.placed.CallStatistics.{CallStatistics}
 use Rattle.vac_manager.specs.Placed.{nothing_done, HasCalledPlaced}
 use Rattle.vac_manager.proofs.Placing.{Tallied, took}
-use Rattle.stm_core.specs.Client.{Client}
+use Rattle.stm_core.specs.Client.{Client, all_aborted}
 use Rattle.stm_region.specs.Shown.{RegionShown}
 use Rattle.stm_attempt.specs.declared.conflict.Stop.{Stop}
 use Rattle.stm_attempt.specs.declared.conflict.Stop.TheVariants as stop
@@ -152,6 +152,7 @@ module _ (region : RegionShown) (t : Task) where
         );
         records = rs;
         spares = spares result v v' g.spares;
+        aborted = g.aborted;
         attempts = attempts tries result v v' g;
         once = λ all. once result v v' (g.once all);
         next = λ all. next (only_reads t) region.last v.floor v'.floor result (g.near all);
@@ -174,6 +175,7 @@ module _ (region : RegionShown) (t : Task) where
     arguments = (λ _. out, λ _. refl);
     records = refl;
     spares = tt;
+    aborted = ([], sym (append-nil (all_aborted c.value)));
     attempts = refl;
     once = λ _. refl;
     next = λ _. refl;

@@ -10,6 +10,7 @@ use Rattle.stm_region.specs.Shown.{RegionShown}
 use Rattle.stm_core.specs.Guards.{stripe_of}
 use Rattle.stm_object.specs.Callers.{UserShown, CallerShown as CallerOfObject}
 use Rattle.stm_object.specs.Callers.{Splits as SplitsUser}
+use Rattle.stm_object.specs.History.{GrowsAborted}
 use Rattle.stm_attempt.specs.Committing.{HasWonLock, HasLostTick}
 use Rattle.stm_attempt.specs.Conflicts.{IsReadConflict, IsCommitConflict}
 use Rattle.stm_attempt.specs.declared.conflict.Conflict.{Conflict}
@@ -198,7 +199,8 @@ IsNotBusy e = Unit {0}
 
 -- the effect of a call of a task: the client's value afterwards, the records that were added, the
 -- number of attempts, the reason for a fault, and, for a solo client, the history that its records
--- are
+-- are. The aborted attempts that the client listed before stay in its list
+-- Not said: which ones the call adds (`HasTraced` says it of a traced call).
 pub record HasCalled (region : RegionShown) (t : Task) (tries : ℕ) (result : Result Reply Fault)
     (c c' : ClientShown) : Type 0 where
   pub client : c' ≡ record c { value = c'.value }
@@ -208,6 +210,7 @@ pub record HasCalled (region : RegionShown) (t : Task) (tries : ℕ) (result : R
   pub arguments : IsErrOf result fault.Arguments ↔ (is_call t tries ≡ false)
   pub records : Records region t result c.value c'.value
   pub spares : AddsReaderIfUnchanged t result c.value c'.value
+  pub aborted : GrowsAborted c.value c'.value
   pub attempts : Attempts tries c.value.attempt.number c'.value.attempt.number result
   pub once : HasAllGrants c.value
       → Attempts 1 c.value.attempt.number c'.value.attempt.number result

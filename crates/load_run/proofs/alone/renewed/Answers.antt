@@ -1,4 +1,5 @@
-use Rattle.std.proofs.Common.{◌≡◌, ◌∙◌, ap, arith}
+use Rattle.std.proofs.Common.{◌≡◌, ◌∙◌, ap, append-nil, arith}
+use Rattle.stm_core.specs.Client.{all_aborted}
 use Rattle.stm_region.specs.Shown.{RegionShown}
 use Rattle.vac_manager.specs.Called.{ClientShown}
 use Rattle.load_run.proofs.Eras.{renewed_in}
@@ -16,6 +17,7 @@ returns-in-Ok-clause-renewed c =
       size = ap (λ (r : RegionShown). r.size) region;
       first = ap (λ (r : RegionShown). r.first) region;
       records = ap (λ (x : ClientShown). x.value.records) client;
+      aborted = ap (λ (x : ClientShown). all_aborted x.value) client ∙ append-nil (all_aborted c.args.client.value);
       alone = record {
         own = ap (λ (x : ClientShown). x.table) client;
         alone = ap (λ (x : ClientShown). x.value.grants) client ∙ c.requires.alone.alone;

@@ -8,8 +8,9 @@ use Rattle.load_run.specs.Lists.{Paired}
 use Rattle.load_run.specs.Load.{Gathered, IsMember}
 use Rattle.load_run.proofs.Pairs.{all_met, paired_none, paired_step, one_on, all_same, all_but_first, all_first}
 use Rattle.load_run.proofs.Pairs.{room_left, room_taken, held_back, nothing_left}
-use Rattle.load_run.specs.Several.{sum_of}
-use Rattle.load_run.proofs.Gatherings.{gathered_one, gathered_more, sum_one, sum_on, took_in}
+use Rattle.stm_core.specs.Client.{all_aborted}
+use Rattle.load_run.specs.Several.{AllWithin, sum_of}
+use Rattle.load_run.proofs.Gatherings.{gathered_one, gathered_more, sum_one, sum_on, took_in, aborted_one, aborted_more}
 use Rattle.load_run.proofs.gathering.gather_all.Goals as goal
 
 -- so many more workers have no more tasks
@@ -36,6 +37,7 @@ loop-worker-init g c =
           (into_iter_items c.into_iter-worker-iterator.result) made.0 c.requires.can.others;
       tries = refl;
       attempts = sum_one (λ w. w.outcomes.attempts) c.args.crew.first;
+      aborted = aborted_one (λ w. all_aborted w.caller.user.value) c.args.crew.first;
       gathered = gathered_one (λ w. w.caller.user.value.records) (λ w. w.outcomes.outcomes) c.args.crew.first;
       handed = paired_step (λ w slot. slot ≡ w.slot) []
           c.args.slots.items c.push_reserved.new.self.items c.args.crew.first c.args.crew.first.slot pushed.items
@@ -87,6 +89,9 @@ loop-worker-preserved g c =
       attempts = sum_on (λ w. w.outcomes.attempts) c.args.crew.first c.loop-worker.yielded c.in-Some.worker
           c.loop-worker.outcomes.attempts c.plus-outcomes.result.attempts i.attempts
           (ap (λ (x : TaskCountsShown). x.attempts) c.plus-outcomes.ensures);
+      aborted = aborted_more (λ w. all_aborted w.caller.user.value) (c.args.crew.first ∷ c.loop-worker.yielded)
+          c.in-Some.worker (all_aborted c.loop-worker.caller.user.value) (all_aborted c.gather.new.self.user.value)
+          i.aborted taken.mine taken.theirs;
       gathered = gathered_more (λ w. w.caller.user.value.records)
           (λ w. w.outcomes.outcomes) c.args.crew.first c.loop-worker.yielded c.in-Some.worker
           c.loop-worker.caller.user.value c.gather.new.self.user.value c.loop-worker.outcomes.outcomes
@@ -129,3 +134,11 @@ returns-clause-slots g c =
     (all_met c.args.crew.others.items c.loop-worker.yielded (into_iter_items c.loop-worker.worker-iterator)
     c.loop-worker.invariant.all (nothing_left c.loop-worker.worker-iterator c.in-None.ensures.steps.0))
     c.loop-worker.invariant.handed
+
+pub returns-clause-aborted : goal.returns-clause-aborted
+returns-clause-aborted g c =
+    rw c.into_user.ensures.user (subst (λ (l : List _). AllWithin (λ w. all_aborted w.caller.user.value)
+    (c.args.crew.first ∷ l) (all_aborted c.loop-worker.caller.user.value))
+    (all_met c.args.crew.others.items c.loop-worker.yielded (into_iter_items c.loop-worker.worker-iterator)
+    c.loop-worker.invariant.all (nothing_left c.loop-worker.worker-iterator c.in-None.ensures.steps.0))
+    c.loop-worker.invariant.aborted)

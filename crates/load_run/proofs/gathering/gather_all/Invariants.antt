@@ -4,7 +4,8 @@ use Rattle.std.specs.Vec.Iter.{into_iter_items, into_iter_len}
 use Rattle.load_run.specs.Looping.{total}
 use Rattle.load_run.specs.Lists.{Paired}
 use Rattle.load_run.specs.Load.{Gathered, IsMember}
-use Rattle.load_run.specs.Several.{sum_of}
+use Rattle.load_run.specs.Several.{AllWithin, sum_of}
+use Rattle.stm_core.specs.Client.{all_aborted}
 use Rattle.load_run.proofs.gathering.gather_all.Given as goal
 
 abbrev pub invariant-loop-worker : goal.invariant-loop-worker
@@ -17,6 +18,8 @@ invariant-loop-worker g l = record {
   attempts : l.outcomes.attempts ≡ sum_of (λ w. w.outcomes.attempts) (l.fn.crew.first ∷ l.yielded);
   gathered : Gathered (λ w. w.caller.user.value.records)
       (λ w. w.outcomes.outcomes) l.fn.crew.first l.yielded l.caller.user.value.records l.outcomes.outcomes;
+  aborted : AllWithin (λ w. all_aborted w.caller.user.value) (l.fn.crew.first ∷ l.yielded)
+      (all_aborted l.caller.user.value);
   handed : Paired (λ w slot. slot ≡ w.slot) (l.fn.crew.first ∷ l.yielded) l.slots.items;
   room : vec_len l.slots + into_iter_len l.worker-iterator ≤ vec_capacity l.slots;
   bound : total l.outcomes.outcomes + into_iter_len l.worker-iterator * 1000000 ≤ 65000000;

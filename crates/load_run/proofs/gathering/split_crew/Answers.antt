@@ -26,6 +26,7 @@ loop-another-init g c =
       manager = refl;
       records = refl;
       floor = refl;
+      aborted = refl;
       grants = none_out c.args.caller.user.value.grants c.in-Ok.others.len c.requires.alone made.len;
       count = counted_in c.in-Ok.others.len (into_iter_len c.into_iter-another-iterator.result)
           (into_iter_len c.next.new.self) (into_iter_len c.into_iter-slots.result) c.args.slots.len made.len
@@ -51,6 +52,7 @@ loop-another-preserved g c =
       manager = c.split.ensures.shared ∙ i.manager;
       records = keeps.records ∙ i.records;
       floor = keeps.floor ∙ i.floor;
+      aborted = keeps.aborted ∙ i.aborted;
       grants = handed_out c.loop-another.caller.user.value.grants c.split.new.self.user.value.grants
           c.loop-another.others.len c.push_reserved.new.self.len keeps.grants p.len i.grants;
       count = counted_on c.loop-another.others.len c.push_reserved.new.self.len _ _ c.args.slots.len t.1 p.len i.count;
@@ -79,5 +81,6 @@ returns-clause-crew g c =
       grants = i.grants;
       others_grants = i.others_grants;
       outcomes = search rules;
+      aborted = i.aborted;
       others_tallies = i.tallies;
     }

@@ -1,6 +1,7 @@
 use Rattle.std.proofs.Common.{◌≡◌, ◌≤◌, ◌+◌, ◌++◌, [], All, vec_len, vec_capacity}
 use Rattle.stm_core.specs.declared.limits.TheConstants.{MOST_GRANTS}
 use Rattle.std.specs.Vec.Iter.{into_iter_items, into_iter_len}
+use Rattle.stm_core.specs.Client.{all_aborted}
 use Rattle.load_run.specs.Lists.{Paired}
 use Rattle.load_run.specs.Attempted.{uncounted}
 use Rattle.load_run.specs.Load.{IsWorker}
@@ -12,6 +13,7 @@ invariant-loop-another g l = record {
   manager : l.caller.shared ≡ l.fn.caller.shared;
   records : l.caller.user.value.records ≡ l.fn.caller.user.value.records;
   floor : l.caller.user.value.floor ≡ l.fn.caller.user.value.floor;
+  aborted : all_aborted l.caller.user.value ≡ all_aborted l.fn.caller.user.value;
   grants : l.caller.user.value.grants + vec_len l.others ≡ MOST_GRANTS;
   others_grants : All (λ w. w.caller.user.value.grants ≡ 0) l.others.items;
   tallies : All (λ w. w.outcomes ≡ uncounted l.fn.tries) l.others.items;

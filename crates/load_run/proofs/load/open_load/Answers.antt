@@ -1,8 +1,8 @@
-use Rattle.std.proofs.Common.{rules, inl, refl, ap, subst, sym, ◌≡◌, List, ◌++◌, arith}
-use Rattle.stm_core.specs.Client.{Record}
+use Rattle.std.proofs.Common.{rules, inl, refl, ap, subst, sym, ◌≡◌, ◌∙◌, List, [], ◌++◌, arith}
+use Rattle.stm_core.specs.Client.{Record, Aborted, all_aborted}
 use Rattle.vac_manager.specs.Called.{ClientShown, CallerShown}
 use Rattle.load_tasks.specs.Tasks.{opening}
-use Rattle.load_run.specs.Keeping.{HasKeptAdded, contents}
+use Rattle.load_run.specs.Keeping.{HasKeptAdded, AreKept, contents}
 use Rattle.load_run.specs.Opening.{RanIn, StoppedIn, IsAnswered}
 use Rattle.load_run.proofs.Eras.{opened_in}
 use Rattle.load_run.proofs.Loads.{was_stopped}
@@ -42,13 +42,17 @@ returns-clause-kept g c =
     let empty = ap (λ (x : ClientShown). x.value.records) c.in-Ok.ensures.ok.client_is in
     let number : c.in-Ok.client.value.attempt.number ≡ 0 =
     ap (λ (x : ClientShown). x.value.attempt.number) c.in-Ok.ensures.ok.client_is in
-    rw c.into_user-client.ensures.user (kept_all c.in-Ok.manager.renewal c.in-Ok.client.value after
-    after.attempt.number after.records _ _ (sym (ap (λ (l : List Record). l ++ after.records) empty))
-    (omega (arith, number))
-    (subst (λ (y : CallerShown). HasKeptAdded y.shared.renewal y.user.value after
-    (contents g.K.Recorder.notes g.K.Recorder.traced c.args.keep.now)
-    (contents g.K.Recorder.notes g.K.Recorder.traced c.open_kept.new.keep)) c.caller-caller.ensures
-    c.in_default-open_kept.ensures.kept))
+    let none : all_aborted c.in-Ok.client.value ≡ [] =
+    ap (λ (x : ClientShown). all_aborted x.value) c.in-Ok.ensures.ok.client_is in
+    let before = contents g.K.Recorder.notes g.K.Recorder.traced c.args.keep.now in
+    let now = contents g.K.Recorder.notes g.K.Recorder.traced c.open_kept.new.keep in
+    let kept : HasKeptAdded c.in-Ok.manager.renewal c.in-Ok.client.value after before now =
+    subst (λ (y : CallerShown). HasKeptAdded y.shared.renewal y.user.value after before now) c.caller-caller.ensures
+    c.in_default-open_kept.ensures.kept in
+    rw c.into_user-client.ensures.user (subst (λ (l : List Aborted). AreKept after.attempt.number after.records l before
+    now) (sym (kept.listed ∙ ap (λ (l : List Aborted). l ++ kept.aborts) none))
+    (kept_all c.in-Ok.manager.renewal c.in-Ok.client.value after after.attempt.number after.records before now
+    (sym (ap (λ (l : List Record). l ++ after.records) empty)) (omega (arith, number)) kept))
 
 pub returns-in_default-clause-stopped : goal.returns-in_default-clause-stopped
 returns-in_default-clause-stopped g c = inl refl

@@ -207,12 +207,12 @@ returns-else-is_ok-clause-stopped g c =
           w.client-is ∙ ap (λ n. w.decide-answer.new.client.value.attempt.steps + n) w.in-Ok.ensures.all.count)
           (c.give_back_first.ensures.gave_back (let there = some_locks log c.requires.logged.written
           c.same_addresses.ensures in omega (arith, there, w.in-Ok.ensures.all.count)))
-          c.give_back_first.ensures.free)
+          c.give_back_first.ensures.able c.give_back_first.ensures.free)
           w.decide-answer.ensures.failed)
       | in-Err w ↦ subst (λ r. IfErr r (λ stop. HasStopped region log stop v e)) (sym w.answer-is)
           (stopped_locking region log v l some _ e c.lock_all.new.taken w.in-Err.ensures.failed w.in-Err.ensures.shown
           (subst (λ (s : ClientShown). returned e ≡ returned s.value) w.client-is c.give_back_first.ensures.same)
-          c.give_back_first.ensures.free)
+          c.give_back_first.ensures.able c.give_back_first.ensures.free)
     ]
 
 pub returns-else-is_ok-clause-steps : goal.returns-else-is_ok-clause-steps

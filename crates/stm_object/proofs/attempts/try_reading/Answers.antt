@@ -6,6 +6,7 @@ use Rattle.stm_attempt.specs.Meaning.{Origin}
 use Rattle.stm_attempt.specs.Leading.{nothing_logged}
 use Rattle.stm_object.specs.Object.{IsFitting}
 use Rattle.stm_object.proofs.Adding.{committed, finish_commits, added_last, unplaced_begun, at_place, adds_at}
+use Rattle.stm_object.proofs.Adding.{abort_listed, commit_unlisted}
 use Rattle.stm_object.proofs.Lawful.{has_value, does_reading, lawful}
 use Rattle.stm_object.proofs.Histories.{in_order, decided_reading, spared}
 use Rattle.stm_object.proofs.Knowing.{near_finished}
@@ -40,6 +41,9 @@ returns-in-Some-clause-tried g c = record {
   spares = tt;
   alone = search rules;
   near = search rules;
+  aborted = abort_listed c.args.region.now _ _ _ c.read-answer.new.memory.client.now.value _
+      c.begin-attempt.ensures.value (ap (λ (o : Origin). o.client.value) c.read-answer.ensures.origin)
+      (search rules) (search rules);
   stopped = (
     search rules,
     inl (shown_by_read _ _ _ _ _ (ap (λ (o : Origin). o.region) c.read-answer.ensures.origin
@@ -90,6 +94,9 @@ returns-clause-tried g c =
           c.read-answer.new.memory.region.now _ _ c.read-answer.new.memory.client.now _ _ refl
           c.finish-version.ensures.client.1 (search rules) in
           (omega (arith, n), λ _. n);
+      aborted = commit_unlisted c.args.region.now c.read-answer.new.memory.region.now (g.S.Object.is.code entry) [] _ _
+          c.args.client.now _ c.read-answer.new.memory.client.now.value _ _ c.begin-attempt.ensures.value same done
+          (search rules);
       stopped = tt;
     }
 

@@ -3,7 +3,7 @@ use Rattle.stm_region.specs.Shown.{RegionShown}
 use Rattle.stm_attempt.specs.Meaning.{Origin}
 use Rattle.stm_object.specs.Object.{IsFitting}
 use Rattle.stm_object.proofs.Adding.{committed, added_last, unplaced_begun, unplaced_stopped, at_place, adds_at}
-use Rattle.stm_object.proofs.Adding.{wrote_is}
+use Rattle.stm_object.proofs.Adding.{wrote_is, abort_listed, stop_listed, commit_unlisted}
 use Rattle.stm_object.proofs.Lawful.{has_value, nothing_written, does, lawful}
 use Rattle.stm_object.proofs.Histories.{in_order, spared}
 use Rattle.stm_object.proofs.Knowing.{near_begun, near_committed, near_stopped}
@@ -36,6 +36,9 @@ returns-in-Some-clause-tried g c = record {
   spares = tt;
   alone = search rules;
   near = search rules;
+  aborted = abort_listed c.args.region.now _ _ _ c.run-answer.new.memory.client.now.value _
+      c.begin-attempt.ensures.value (ap (λ (o : Origin). o.client.value) c.run-answer.ensures.origin)
+      (search rules) (search rules);
   stopped = (
     search rules,
     inl (shown_by_read _ _ _ _ _ (ap (λ (o : Origin). o.region) c.run-answer.ensures.origin
@@ -63,6 +66,9 @@ returns-in_default-answer-clause-tried g c = record {
         (search rules),
     λ no. absurd (not_reading no),
   );
+  aborted = abort_listed c.args.region.now _ _ _ c.run-answer.new.memory.client.now.value _
+      c.begin-attempt.ensures.value (ap (λ (o : Origin). o.client.value) c.run-answer.ensures.origin)
+      (search rules) (search rules);
   stopped = (refl, search rules);
 }
 
@@ -106,6 +112,8 @@ returns-in-Ok-commit-clause-tried g c =
             (search rules),
         λ no. absurd (not_reading no),
       );
+      aborted = commit_unlisted c.args.region.now c.run-answer.new.memory.region.now (g.S.Object.is.code entry) _ _ _
+          c.args.client.now _ v _ _ c.begin-attempt.ensures.value same c.in-Ok-commit.ensures.ok (search rules);
       stopped = tt;
     }
 
@@ -150,6 +158,9 @@ returns-in-Err-clause-tried g c = record {
         c.in-Err.ensures.version.next c.in-Err.ensures.version.lone (c.in-Err.ensures.refused (search rules)),
     λ no. absurd (not_reading no),
   );
+  aborted = stop_listed c.args.region.now _ _ _ _ _ _ _ _ _ c.begin-attempt.ensures.value
+      (ap (λ (o : Origin). o.client.value) c.run-answer.ensures.origin) (c.in-Err.ensures.refused (search rules))
+      (search rules);
   stopped =
       commit_stop g.S.Object.is (λ a. g.B.Body.entry_of c.args.body.now a) (λ a. g.B.Body.changes c.args.body.now a)
       _ _ _ c.in-Ok.found _ _ c.args.client.now.value _ _ _

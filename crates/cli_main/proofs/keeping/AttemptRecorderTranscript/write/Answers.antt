@@ -1,4 +1,4 @@
-use Rattle.std.proofs.Common.{rules, inl, inr, refl}
+use Rattle.std.proofs.Common.{inl, inr, refl}
 use Rattle.cli_main.proofs.LoadEnds.{right_blocks}
 use Rattle.cli_main.proofs.Ledgers.{wrote_tried, wrote_tried_in_part, has_long}
 use Rattle.cli_main.proofs.keeping.AttemptRecorderTranscript.write.Goals as goal

@@ -58,9 +58,9 @@ plus-requires g c =
     let rounds : c.rounds.done ≤ 100 = omega (arith, most.rounds, c.rounds-test.true) in
     let ran = c.rounds.invariant.ran (caller_of c.in_ok-manager.manager c.in_ok-manager.client)
     c.in_ok-round.ensures.ran in
-    let so_far = few_all _ _ _ c.rounds.done _ (ran_total _ _ _ _ _ _ _ _ _ _ _ _ ran) count
+    let so_far = few_all _ _ _ c.rounds.done _ (ran_total _ _ _ _ _ _ _ _ _ _ _ _ _ _ ran) count
     most.clients rounds most.tasks in
-    let more = few_each _ _ _ _ (ran_total _ _ _ _ _ _ _ _ _ _ _ _ c.in_ok-more.ensures.ran) here most.clients
+    let more = few_each _ _ _ _ (ran_total _ _ _ _ _ _ _ _ _ _ _ _ _ _ c.in_ok-more.ensures.ran) here most.clients
     most.tasks in
     record {
       fits = omega (arith, so_far, more);
@@ -85,7 +85,7 @@ rounds-preserved g c =
           c.args.self.plan.settings c.rounds.done y
           (caller_of c.in_ok-manager-2.manager c.in_ok-manager-2.client)
           c.args.self.slots.items c.rounds.round c.in_ok-more.more c.plus.result
-          (i.ran y h) renewed.records (omega (arith, renewed.renewal)) more.ran
+          (i.ran y h) renewed.records renewed.aborted (omega (arith, renewed.renewal)) more.ran
           (ap (λ (x : TaskCountsShown). x.outcomes) c.plus.ensures)
           (ap (λ (x : TaskCountsShown). x.attempts) c.plus.ensures);
     }

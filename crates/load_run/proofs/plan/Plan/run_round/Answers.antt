@@ -1,4 +1,5 @@
 use Rattle.std.proofs.Common.{◌≡◌, ◌∙◌, length, sym, ap, subst, arith}
+use Rattle.stm_core.specs.Client.{all_aborted}
 use Rattle.stm_region.specs.Shown.{RegionShown}
 use Rattle.vac_manager.specs.Called.{CallerShown}
 use Rattle.load_run.specs.Keeping.{contents}
@@ -62,8 +63,9 @@ returns-clause-ran g c =
     (shown (contents g.K.Recorder.notes g.K.Recorder.traced)) c.args.self.settings.tasks y.shared.renewal
     y.shared.renewal y.user.value.records c.args.slots.items
     c.gather_all-client.result.0.value.records c.gather_all-client.result.1.items c.gather_all-client.result.2.outcomes
-    c.gather_all-client.result.2.attempts)
+    c.gather_all-client.result.2.attempts (all_aborted y.user.value) (all_aborted c.gather_all-client.result.0.value))
     opened (ran_all g.D.Draws.leads (shown (contents g.K.Recorder.notes g.K.Recorder.traced)) c.args.self.settings
     c.caller-caller.result _ _ _ _
     c.gather_all-client.result.0.value _ _ ready c.in_ok-crew.ensures.crew c.in_ok-crew-2.ensures.1.0
-    c.gather_all-client.ensures.gathered c.gather_all-client.ensures.slots c.gather_all-client.ensures.attempts)
+    c.gather_all-client.ensures.gathered c.gather_all-client.ensures.slots c.gather_all-client.ensures.attempts
+    c.gather_all-client.ensures.aborted)

@@ -2,7 +2,7 @@ use Rattle.std.proofs.Common.{rules, refl, ◌-◌, ◌∙◌, sym, arith}
 use Rattle.stm_attempt.specs.declared.conflict.Stop.TheVariants as stop
 use Rattle.stm_object.specs.Object.{IsFitting}
 use Rattle.stm_object.proofs.Stopping.{Made, met_conflict, some_left, none_left, trying_next, not_conflict, no_record}
-use Rattle.stm_object.proofs.Stopping.{conflict_shown, tallied_conflict, has_called, has_tallied, is_later}
+use Rattle.stm_object.proofs.Stopping.{conflict_shown, tallied_conflict, has_called, has_tallied, is_later, grows_by}
 use Rattle.stm_object.proofs.Tracing.{traced_last, traced_next}
 use Rattle.stm_object.proofs.caller.Caller.call.Goals as goal
 use Rattle.stm_object.proofs.caller.Caller.call.Goals.{then-reads, else-reads}
@@ -53,11 +53,13 @@ tries-preserved g c =
           c.tries.user-inside.client.value c.if-reads.user-inside.client.value c.if-reads.answer met.1
           one.tried.stopped)
           (tallied_conflict (λ x t. g.T.Tracer.more x t) met.0 c.if-reads.answer _ _ met.1 one.tallied) one.tried.floor
-          one.tried.unplaced (λ a. not_conflict met.0 c.if-reads.answer met.1 (one.tried.alone a));
+          one.tried.unplaced
+          (grows_by c.shared.inside.region c.tries.user-inside.client.value c.if-reads.user-inside.client.value
+          c.if-reads.answer one.tried.aborted) (λ a. not_conflict met.0 c.if-reads.answer met.1 (one.tried.alone a));
       traced = traced_next (IsFitting g.S.Object.is) c.shared.inside.region c.if-reads.answer
           (stop.Conflict met.0) c.user.inside.client.value
           c.tries.user-inside.client.value c.if-reads.user-inside.client.value _ _ _ met.1 c.tries.invariant.traced
-          one.traced.one one.tried.attempt c.tries.invariant.trying.records;
+          one.traced.one one.tried.attempt c.tries.invariant.trying.records one.tried.aborted;
     }
 
 pub returns-then-not-is_tried_again-clause-call : goal.returns-then-not-is_tried_again-clause-call
@@ -123,7 +125,8 @@ returns-then-not-is_tried_again-clause-traced g c =
     c.tries.user-inside.client.value c.if-reads.user-inside.client.value _ _ _ refl c.tries.invariant.traced
     one.traced.one one.tried.attempt c.tries.invariant.trying.records
     (is_later g.S.Object.is c.shared.inside.region (λ a. g.B.Body.entry_of c.args.body.now a)
-    c.tries.user-inside.client.value c.if-reads.user-inside.client.value c.if-reads.answer one.tried.records))
+    c.tries.user-inside.client.value c.if-reads.user-inside.client.value c.if-reads.answer one.tried.records)
+    one.tried.aborted)
 
 pub returns-then-not-is_tried_again-clause-tallied : goal.returns-then-not-is_tried_again-clause-tallied
 returns-then-not-is_tried_again-clause-tallied g c =
