@@ -241,7 +241,7 @@ def holds_kit():
     """The program and the pages name one toolchain. Where another one is installed, that is told: whoever
     lands next with it names it."""
     line = r"rattle-kit-\S+ logic [0-9a-f]+"
-    program = CRATES / "cli_main/src/options.rt"
+    program = CRATES / "cli_options/src/options.rt"
     kit = re.search(line, program.read_text()).group()
     for page in (ROOT / "README.md", ROOT / "docs/USING.md", CRATES / "cli_main/specs/Program.antt"):
         if set(re.findall(line, page.read_text())) != {kit}:

@@ -28,7 +28,7 @@ use Rattle.cli_main.specs.Judging.{JudgesHeld, JudgesWith, JudgeStopped, WorkSto
 use Rattle.cli_main.specs.Ordering.{OrderStopped, FindsNone, HasRefusedInPart, OrderWorkStopped, HoldsOrder}
 use Rattle.cli_main.specs.Ordering.{HoldsText, HoldsInAnyOrder, JudgesText}
 use Rattle.cli_main.specs.Ordering.{JudgesAnyOrder, JudgesAnyHeld, JudgesAnyWith, status_of}
-use Rattle.cli_main.specs.declared.asked.JudgeSettings.{JudgeSettings}
+use Rattle.cli_options.specs.declared.asked.JudgeSettings.{JudgeSettings}
 use Rattle.cli_main.specs.Asking.{AttemptsStopped, PlacingStopped, JudgesAs, JudgesUnless, JudgesAsked}
 use Rattle.cli_main.specs.Asking.{is_refused}
 use Rattle.cli_main.specs.Parting.{PartStopped, CutStopped}

@@ -3,7 +3,7 @@ use Rattle.std.proofs.Common.{◌≡◌, ◌∙◌, refl, ap₂, subst, inl, ℕ
 use Rattle.std.specs.Prelude.{map}
 use Rattle.std.specs.Borrow.{Bor}
 use Rattle.judge_part_text.specs.Naming.{Named, names_of}
-use Rattle.cli_main.specs.declared.asked.PartWords.{PartWords}
+use Rattle.cli_options.specs.declared.asked.PartWords.{PartWords}
 use Rattle.cli_main.specs.Parting.{WritesPart, WritesPartIf, WritesPartOf, named_by}
 
 abbrev texts_of : List (Bor (List ℕ)) → List (List ℕ)

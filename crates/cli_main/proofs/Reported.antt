@@ -3,7 +3,7 @@ use Rattle.std.proofs.Common.{◌≡◌, ◌∙◌, ◌++◌, ℕ, Bool, true, f
 use Rattle.std.proofs.Common.{subst, refl}
 use Rattle.std.proofs.Common.{append-nil}
 use Rattle.vac_lines.specs.Writing.{AppendsPrefix}
-use Rattle.cli_main.specs.declared.asked.JudgeSettings.{JudgeSettings}
+use Rattle.cli_options.specs.declared.asked.JudgeSettings.{JudgeSettings}
 use Rattle.cli_main.specs.Asking.{is_refused}
 use Rattle.cli_main.specs.Reporting.{ReportsCalls, ReportsBeside, ReportsUnless}
 

@@ -6,7 +6,7 @@ use Rattle.judge_opacity.specs.Reading.{HasJudgedAttempts, HasJudgedAttemptsInPa
 use Rattle.judge_opacity.specs.Placed.{HasPlaced, HasPlacedInPart}
 use Rattle.judge_object.specs.declared.level.Level.{Level}
 use Rattle.judge_object.specs.declared.level.Level.TheVariants.{Linearizable}
-use Rattle.cli_main.specs.declared.asked.JudgeSettings.{JudgeSettings}
+use Rattle.cli_options.specs.declared.asked.JudgeSettings.{JudgeSettings}
 use Rattle.cli_main.specs.Ending.{EndsWithStatus}
 use Rattle.cli_main.specs.Judging.{Judges, JudgesWork, NamedAlone}
 use Rattle.cli_main.specs.Ordering.{JudgesAnyOrder, JudgesAnyWork}

@@ -6,5 +6,4 @@ pub mod Judging
 pub mod Ordering
 pub mod Asking
 pub mod Parting
-pub mod CommandLine
 pub mod Laws

@@ -3,7 +3,7 @@ use Rattle.std.specs.Prelude.{◌≡◌, ◌⊎◌, ℕ, true, false, Option, So
 use Rattle.judge_part_text.specs.Naming.{Named, names_of}
 use Rattle.judge_part_text.specs.Parting.{HasParted, HasPartedInPart}
 use Rattle.judge_part_text.specs.Until.{HasPartedUntil, HasPartedUntilInPart}
-use Rattle.cli_main.specs.declared.asked.PartWords.{PartWords}
+use Rattle.cli_options.specs.declared.asked.PartWords.{PartWords}
 use Rattle.vac_lines.specs.Writing.{AppendsPrefix}
 use Rattle.vac_lines.specs.declared.stream_fault.StreamFault.TheVariants.{Memory}
 use Rattle.cli_main.specs.Ending.{EndsWithStatus, fault_line}

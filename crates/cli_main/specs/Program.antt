@@ -8,10 +8,10 @@ use Rattle.clap.specs.declared.error.kind.ErrorKind.TheVariants as error
 use Rattle.load_tasks.specs.declared.settings.Settings.{Settings}
 use Rattle.load_tasks.specs.Setting.{is_settings}
 use Rattle.load_run.specs.declared.load.LoadFault.TheVariants.{Arguments}
-use Rattle.cli_main.specs.declared.asked.Request.{Request}
-use Rattle.cli_main.specs.declared.asked.Request.TheVariants.{Run, Dump, Check, Judge, Order}
-use Rattle.cli_main.specs.declared.asked.Request.TheVariants.{Opaque, Part, Load, Tasks}
-use Rattle.cli_main.specs.declared.asked.Request.TheVariants.{UnknownLevel}
+use Rattle.cli_options.specs.declared.asked.Request.{Request}
+use Rattle.cli_options.specs.declared.asked.Request.TheVariants.{Run, Dump, Check, Judge, Order}
+use Rattle.cli_options.specs.declared.asked.Request.TheVariants.{Opaque, Part, Load, Tasks}
+use Rattle.cli_options.specs.declared.asked.Request.TheVariants.{UnknownLevel}
 use Rattle.vac_lines.specs.Script.{as_line}
 use Rattle.vac_lines.specs.declared.stream_fault.StreamFault.TheVariants.{Memory}
 use Rattle.vac_lines.specs.Writing.{AppendsPrefix}
@@ -26,7 +26,7 @@ use Rattle.cli_main.specs.Ordering.{Orders}
 use Rattle.cli_main.specs.Asking.{Refuses, JudgesAsked, JudgesOpacity}
 use Rattle.cli_main.specs.Parting.{WritesPartOf}
 use Rattle.cli_main.specs.Reporting.{Reports}
-use Rattle.cli_main.specs.CommandLine.{vacation, AsksFor}
+use Rattle.cli_options.specs.CommandLine.{vacation, AsksFor}
 
 -- the program runs a load, and writes its history or its two lines
 abbrev pub Loads : Bool → ℕ → Settings → Option (List ℕ) → Option (List ℕ) → Type 0

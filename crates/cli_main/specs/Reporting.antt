@@ -8,11 +8,11 @@ use Rattle.judge_coverage.specs.declared.coverage.Coverage.{Coverage}
 use Rattle.judge_coverage.specs.declared.attempts.AttemptCoverage.{AttemptCoverage}
 use Rattle.judge_coverage.specs.Text.{calls_coverage_text, calls_warning_text, pending_warning_text}
 use Rattle.judge_coverage.specs.Text.{attempts_coverage_text, attempts_warning_text}
-use Rattle.cli_main.specs.declared.asked.JudgeSettings.{JudgeSettings}
-use Rattle.cli_main.specs.declared.asked.Request.{Request}
-use Rattle.cli_main.specs.declared.asked.Request.TheVariants.{Run, Dump, Check, Judge, Order}
-use Rattle.cli_main.specs.declared.asked.Request.TheVariants.{Opaque, Part, Load, Tasks}
-use Rattle.cli_main.specs.declared.asked.Request.TheVariants.{UnknownLevel}
+use Rattle.cli_options.specs.declared.asked.JudgeSettings.{JudgeSettings}
+use Rattle.cli_options.specs.declared.asked.Request.{Request}
+use Rattle.cli_options.specs.declared.asked.Request.TheVariants.{Run, Dump, Check, Judge, Order}
+use Rattle.cli_options.specs.declared.asked.Request.TheVariants.{Opaque, Part, Load, Tasks}
+use Rattle.cli_options.specs.declared.asked.Request.TheVariants.{UnknownLevel}
 use Rattle.cli_main.specs.Asking.{is_refused}
 
 -- a report: the figures if they are asked for, and behind them the warnings if the status is that

@@ -10,11 +10,11 @@ ghost use Rattle.cli_main.specs.Asking.{JudgesAttempts, PlacesAttempts, JudgesOp
 ghost use Rattle.cli_main.specs.Reporting.{ReportsUnless, ReportsAttempts};
 ghost use Rattle.judge_coverage.specs.Watching.{inner_of};
 
-use crate::asked::{JudgeSettings, OpacitySettings};
 use crate::files::Open;
 use crate::reporting::{most_watched, report_attempts, report_calls};
 use crate::searching::judge_any;
 use crate::status::{end_by, end_judged, end_unopened, refuse};
+use cli_options::{JudgeSettings, OpacitySettings};
 use judge_calls::{CALL_BYTES, judge_history, judge_with_workload};
 use judge_coverage::Watched;
 use judge_object::Level;

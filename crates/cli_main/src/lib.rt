@@ -5,13 +5,11 @@
 //! below.
 #![tactic(auto)]
 
-mod asked;
 mod files;
 mod judging;
 mod keeping;
 mod laws;
 mod load;
-mod options;
 mod parting;
 mod program;
 mod reporting;

@@ -11,10 +11,10 @@ ghost use Rattle.vac_lines.specs.Script.{as_line};
 ghost use Rattle.vac_lines.specs.Writing.{AppendsPrefix};
 ghost use Rattle.vac_lines.specs.Text.{report_text};
 
-use crate::asked::LoadOutput;
 use crate::stats::{LoadTimer, tell_stats};
 use crate::status::{DONE, FAULT, end_by, end_by_settings, end_load_by, refuse};
 use crate::telling::run_with_progress;
+use cli_options::LoadOutput;
 use load_run::{LoadFault, LoadReport, Outcomes, no_recorders};
 use load_tasks::Settings;
 use std::alloc::{AllocError, Global};

@@ -4,8 +4,8 @@ ghost use Rattle.std.specs.Prelude.{◌≡◌};
 ghost use Rattle.judge_part_text.specs.Naming.{shown};
 ghost use Rattle.cli_main.specs.Parting.{WritesPart, WritesPartOf};
 
-use crate::asked::PartWords;
 use crate::status::{end_by, end_judged, refuse};
+use cli_options::PartWords;
 use judge_heuristic::Names;
 use judge_part_text::{read_names, write_part, write_part_until};
 use std::alloc::Global;

@@ -8,16 +8,15 @@ ghost use Rattle.vac_model.specs.Ranges.{is_block_count};
 ghost use Rattle.judge_coverage.specs.Watching.{inner_of};
 ghost use Rattle.cli_main.specs.Program.{RunsScript, Dumps, Checks, ListsTasks, ShowsError, Serves};
 
-use crate::asked::{Request, read_asked};
 use crate::files::Open;
 use crate::judging::{judge, judge_opaque};
 use crate::load::load;
-use crate::options::VERSION;
 use crate::parting::part;
 use crate::searching::order;
 use crate::status::{DONE, FAULT, REFUSED, end_by, end_by_settings, end_done, end_judged, refuse};
 use clap::Error;
 use clap::error::ErrorKind;
+use cli_options::{Request, VERSION, read_asked};
 use cli_script::{check_words, dump_script, run_script};
 use judge_coverage::Watched;
 use load_tasks::{Settings, TasksFault, write_tasks};

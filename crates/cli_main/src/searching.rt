@@ -12,11 +12,11 @@ ghost use Rattle.cli_main.specs.Ordering.{HoldsInAnyOrder, JudgesAnyHeld, Judges
 ghost use Rattle.cli_main.specs.Reporting.{ReportsBeside};
 ghost use Rattle.judge_coverage.specs.Watching.{inner_of};
 
-use crate::asked::{JudgeSettings, SearchSettings};
 use crate::judging::judge_alone;
 use crate::reporting::{most_watched, report_calls};
 use crate::status::{DONE, FAULT, UNDECIDED, end_by, end_judged};
 use crate::telling::has_passed;
+use cli_options::{JudgeSettings, SearchSettings};
 use judge_calls::{CALL_BYTES, judge_order_with_workload, read_all};
 use judge_coverage::Watched;
 use judge_linear::{Outcome, Settings, order_history};

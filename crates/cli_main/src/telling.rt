@@ -3,8 +3,8 @@
 ghost use Rattle.load_run.specs.Keeping.{contents};
 ghost use Rattle.cli_main.specs.Load.{HasRun, RunsKept};
 
-use crate::asked::LoadOutput;
 use crate::stats::LoadTimer;
+use cli_options::LoadOutput;
 use load_run::{AttemptStatistics, Load, LoadFault, LoadReport, Recorders};
 use load_tasks::{PcgDraws, Settings};
 use std::alloc::Global;

@@ -1,5 +1,0 @@
-use Rattle.cli_main.proofs.Making.{gets_both}
-use Rattle.cli_main.proofs.options.add_drawing_options.Goals as goal
-
-pub returns : goal.returns
-returns c = gets_both _ _ _ _ _ c.add_client_options.ensures c.add_task_options.ensures

@@ -1,5 +1,0 @@
-use Rattle.cli_main.proofs.Making.{gets_both}
-use Rattle.cli_main.proofs.options.add_load_options.Goals as goal
-
-pub returns : goal.returns
-returns c = gets_both _ _ _ _ _ c.add_drawing_options.ensures c.add_running_options.ensures

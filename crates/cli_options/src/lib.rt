@@ -1,0 +1,11 @@
+//! The command line: its subcommands and options as clap reads them, and the request that its
+//! words make.
+#![tactic(auto)]
+
+mod asked;
+mod options;
+
+pub use asked::{
+    JudgeSettings, LoadOutput, OpacitySettings, PartWords, Request, SearchSettings, read_asked,
+};
+pub use options::VERSION;
