@@ -157,7 +157,7 @@ pub record IsEmpty (kept : RecorderContents) : Type 0 where
 -- a client made this number of attempts, in turn from the first position to the last one, and these
 -- are the traces of them that stayed in its recorder: the aborted ones, each once, and some of the
 -- committed ones. All words that an aborted attempt has read are in the image of its read version
--- in this history, which begins with this image
+-- in this history, applied to this image
 pub record AreAllTraces (image : List ℕ) (history : List Record) (attempts : ℕ)
     (calls : List CompletedCall) (all : List Trace) : Type 0
   where
@@ -251,7 +251,8 @@ pub record WroteCallsInPart (s : Settings) (held holds : Option (List ℕ)) : Ty
 -- are in turn, and no attempt comes before one that had ended before it began
 -- Some balanced heap agrees with all reads of each attempt listed as aborted. For each client, the
 -- listed attempts are as many as some share of a load counts. There is an order of them, the
--- committed ones and the aborted ones each as listed, in which commit positions do not decrease
+-- committed ones in the order of the calls, in which commit positions do not decrease
+-- Not said: in which order the client made its aborted attempts.
 -- Not said: that an attempt listed as aborted was made, at that version and with no other reads;
 -- its client, and its writes.
 -- Not said: that each aborted attempt of the load is among them, once; that nothing was left out
@@ -278,7 +279,9 @@ pub record WroteLoadAttempts (s : Settings) (held holds : Option (List ℕ)) : T
   pub of_opening : IsWholePage setup_attempts opening
   pub of_clients : Paired (λ page x. IsWholePage x.attempts page) clients noted.loaded.shares
 
--- the load ran to its end, and nothing or a prefix of the text of such attempts was written
+-- the load ran to its end, and nothing or a prefix of a text of its attempts was written. Each
+-- attempt listed as aborted reads the words of a history that the calls made
+-- Not said: that this history is that of `noted`; that the lines are legal.
 pub record WroteLoadAttemptsInPart (s : Settings) (held holds : Option (List ℕ)) : Type 0 where
   pub opening : Page
   pub clients : List Page

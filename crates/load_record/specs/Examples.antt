@@ -54,7 +54,8 @@ worked_entries x y z =
     ∷ record { client = 1; attempt = worked_writer y }
     ∷ record { client = 2; attempt = worked_aborted z } ∷ []
 
--- the attempts meet all conditions under which their text is opaque
+-- the attempts meet the conditions on their order, records, aborted attempts and times under which
+-- their text is opaque
 pub record AreWorked (x y z : Vec Access) : Type 0 where
   pub sorted : EntriesAreOrdered (worked_entries x y z)
   pub records : List Record

@@ -92,7 +92,7 @@ AbortedReadInPlace image first all = (before after : List AttemptEntry) (e : Att
 -- if the committed attempts are made serially and the aborted ones read in place, then all
 -- attempts are legal
 -- Not said: that the aborted attempts of a load read in place. `LoadsAreJudgedByTimes` says from
--- what it follows.
+-- what their legality follows.
 abbrev pub AttemptsInPlaceAreLegal : Type 0
 AttemptsInPlaceAreLegal = (image : List ℕ) (first : List TracedAttempt) (all : List AttemptEntry) →
     AreMadeSerially image first all → AbortedReadInPlace image first all →

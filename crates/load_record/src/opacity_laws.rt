@@ -60,7 +60,8 @@ pub fn serial_attempts_are_legal()
 /// `serial_attempts_are_legal` has it, and each aborted attempt reads the image that the committed
 /// attempts before it leave, and its own writes.
 ///
-/// Not said: that the aborted attempts of a load do so (`loads_are_judged_by_their_times` says it).
+/// Not said: that the aborted attempts of a load do so. `loads_are_judged_by_their_times` says from
+/// what their legality follows.
 pub fn attempts_in_place_are_legal()
     ensures { AttemptsInPlaceAreLegal }
 {}

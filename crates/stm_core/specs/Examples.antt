@@ -141,8 +141,8 @@ pub record WorkedImages : Type 0 where
   pub before_second : image_upto (0 ∷ 0 ∷ []) 1 0 two_writers ≡ 5 ∷ 0 ∷ []
   pub at_second : image_upto (0 ∷ 0 ∷ []) 1 1 two_writers ≡ 6 ∷ 7 ∷ []
 
--- the lists are allowed, decide exactly these records, and leave exactly these aborted attempts.
--- The images of two writers are those that were worked out
+-- the lists are allowed, and each decides exactly these records, leaves exactly these aborted
+-- attempts, or both. The images of two writers are those that were worked out
 pub record WorkedLists : Type 0 where
   pub overtaken_is_allowed : IsAllowedList overtaken
   pub overtaken_decides : decided_by overtaken ≡ overtaken_records

@@ -17,9 +17,9 @@ pub fn core_theorem_of<L: Law>()
     ensures { EveryListIsSerializable L.lawful }
 {}
 
-/// States that the worked lists of events are allowed, decide exactly their records, and leave
-/// exactly their aborted attempts, and that two writers leave the images worked out for four
-/// versions.
+/// States that the worked lists of events are allowed, and that each decides exactly the records,
+/// leaves exactly the aborted attempts, or both, that were worked out for it. Two writers leave the
+/// images that were worked out for four versions.
 pub fn worked_lists_have_their_records()
     ensures { WorkedLists }
 {}
