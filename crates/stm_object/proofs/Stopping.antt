@@ -3,7 +3,7 @@ use Rattle.std.proofs.lemmas.Bool.Decides.{nat_tests}
 use Rattle.std.proofs.Common.{◌≡◌, ℕ, zero, suc, ◌+◌, ◌≤◌, Bool, true, false, List, [], ◌∷◌, ◌++◌, Option, Some, Result}
 use Rattle.std.proofs.Common.{Ok, Err, is_some, nat_lt, ◌&&◌}
 use Rattle.std.proofs.Common.{IfOk, IfErr, MatchResult, append_assoc, append-nil, inr, refl, sym, ap, ◌∙◌, subst, arith}
-use Rattle.stm_core.specs.Client.{Client, Record, aborted_of, all_aborted}
+use Rattle.stm_core.specs.Client.{Client, Record, aborted_of, all_aborted, rank}
 use Rattle.stm_core.specs.Guards.{stripe_of}
 use Rattle.stm_logs.specs.Log.{LogValue, log_pairs}
 use Rattle.stm_region.specs.Shown.{RegionShown, ClientShown}
@@ -14,6 +14,7 @@ use Rattle.stm_attempt.specs.declared.conflict.Conflict.{Conflict}
 use Rattle.stm_attempt.specs.declared.conflict.Stop.{Stop}
 use Rattle.stm_attempt.specs.declared.conflict.Stop.TheVariants as stop
 use Rattle.stm_object.specs.declared.place.CommitPosition.{CommitPosition}
+use Rattle.stm_object.specs.Places.{rank_of}
 use Rattle.stm_object.specs.Object.{Specification, IsFitting, Does}
 use Rattle.stm_object.specs.History.{AddsAt, WritesOnlyChanges, RecordsEntry, WasInOrder, IsAlone, IsNoConflict}
 use Rattle.stm_object.specs.History.{WasRead, AddsAborted, AddsNoAborted, GrowsAborted}
@@ -110,11 +111,11 @@ trying_next Shows more tries left left' v w v' t0 t t' conflict h less next reco
 -- an attempt as the loop of a call finds it, by the client and the tracer before and after
 pub record Made {E A X F T : Type 0} (o : Specification E) (region : RegionShown) (entry : A → E)
     (changes : A → Bool) (frame : X → F) (tally : X → T) (more : Option Conflict → T → T)
-    (ended : X → Option (List Trace)) (reads : Bool) (result : Result (A × CommitPosition) Stop) (c c' : ClientShown)
-    (x x' : X) : Type 0 where
+    (latest : X → ℕ) (ended : X → Option (List Trace)) (reads : Bool) (result : Result (A × CommitPosition) Stop)
+    (c c' : ClientShown) (x x' : X) : Type 0 where
   pub own : c'.table ≡ c.table
   pub tried : AttemptedOnce o region entry changes reads result c.value c'.value
-  pub traced : HasTracedOne (IsFitting o) region result c.value c'.value (ended x) (ended x')
+  pub traced : HasTracedOne (IsFitting o) region result c.value c'.value (latest x) (latest x') (ended x) (ended x')
   pub frame_is : frame x' ≡ frame x
   pub tallied : tally x' ≡ more (conflict_in result) (tally x)
 
@@ -127,7 +128,8 @@ last_is : {X : Type 0} (d : X) (xs : List X) (x : X) → last_or d (xs ++ (x ∷
 last_is d [] x = refl
 last_is d (y ∷ xs) x = last_is y xs x
 
--- the attempt that made the added record is traced at a version that the client knew before, or at a later one
+-- the attempt that made the added record is traced at a version that the client knew before, or at a later one, and
+-- after the writer of the version that the client knew before
 pub is_later : {E A : Type 0} (o : Specification E) (region : RegionShown) (entry : A → E) (w w' : Client)
     (result : Result (A × CommitPosition) Stop) → RecordsEntry o region entry result w w' → IsLater result w w'
 is_later o region entry w w' (Ok a) h = λ t is.
@@ -137,7 +139,10 @@ is_later o region entry w w' (Ok a) h = λ t is.
     ∙ last_is h.adds.made w.records is.added) in
     let at : t.place.version ≡ h.adds.made.version =
     ap (λ (p : CommitPosition). p.version) is.is.place ∙ ap (λ (r : Record). r.version) (sym same) in
-    let later = h.adds.later in omega (arith, later, at)
+    let ranked : rank_of t.place ≡ rank h.adds.made =
+    ap (λ (p : CommitPosition). rank_of p) is.is.place ∙ ap (λ (r : Record). rank r) (sym same) in
+    let later = h.adds.later in let behind = h.adds.behind in
+    (omega (arith, later, at), omega (arith, behind, ranked))
 is_later o region entry w w' (Err e) h = tt
 
 -- another attempt follows a conflict alone, and only if some attempt is left

@@ -1,6 +1,6 @@
 -- What is traced of attempts.
-use Rattle.std.proofs.Common.{◌≡◌, ◌≤◌, ℕ, ◌+◌, Bool, true, false, List, [], ◌∷◌, ◌++◌, length, Option, Some, Result}
-use Rattle.std.proofs.Common.{Ok, MatchResult}
+use Rattle.std.proofs.Common.{◌≡◌, ◌≤◌, ◌<◌, ℕ, ◌+◌, ◌*◌, Bool, true, false, List, [], ◌∷◌, ◌++◌, length, Option, Some}
+use Rattle.std.proofs.Common.{Result, Ok, MatchResult}
 use Rattle.std.proofs.Common.{Err, IfOk, refl, sym, ap, subst, ◌∙◌, append_assoc, append-nil, length-append, arith}
 use Rattle.std.specs.FinMap.{entries, empty}
 use Rattle.tx_memory.specs.Pairs.{map_of}
@@ -16,11 +16,24 @@ use Rattle.stm_region.specs.Findings.{StandsOn}
 use Rattle.stm_attempt.specs.Meaning.{memory_of, IsStanding, Origin, origin_of}
 use Rattle.stm_object.specs.Tracing.{Trace, HasNoAccess, AppendsTrace, IsOfAdded, IsOfEnd, AreAborted, AreOfEnd}
 use Rattle.stm_object.specs.Tracing.{HasTraced, IsReaderAt, IsTraceOfAborted, IsNextAborted, IsListedAborted}
+use Rattle.stm_object.specs.Tracing.{AreMadeInTurn}
 use Rattle.stm_object.specs.History.{AddsAborted, AddsNoAborted}
 use Rattle.stm_object.specs.declared.place.CommitPosition.{CommitPosition}
-use Rattle.stm_object.specs.Places.{place_of}
+use Rattle.stm_object.specs.Places.{place_of, rank_of}
 use Rattle.stm_object.specs.Tracing.{HasTracedCommit, HasTracedAbort, HasTracedOne}
 use Rattle.stm_object.proofs.Adding.{record_reads, record_writes}
+
+-- an attempt between two times, by the times at which it began and ended
+is_between : (from begin to : ℕ) (t : Trace) → from ≤ begin → begin ≤ to → t.begin ≡ begin → t.end ≡ to →
+    AreMadeInTurn from (t ∷ []) to
+is_between from begin to t low high began ended =
+    (omega (arith, low, began), omega (arith, high, began, ended), omega (arith, ended))
+
+-- one more attempt is made after the others
+turn_next : (from between to : ℕ) (ts : List Trace) (t : Trace) → AreMadeInTurn from ts between →
+    AreMadeInTurn between (t ∷ []) to → AreMadeInTurn from (ts ++ (t ∷ [])) to
+turn_next from between to [] t h n = let low = n.0 in (omega (arith, h, low), n.1, n.2)
+turn_next from between to (x ∷ ts) t h n = (h.0, h.1, turn_next x.end between to ts t h.2 n)
 
 -- an attempt that has just begun has neither read nor written anything
 pub tracked_begun : (fits : List ℕ → Type 0) (in_use : Bool) (region : RegionShown) (v : Client) (w : LogValue)
@@ -60,17 +73,16 @@ pub made : (fits : List ℕ → Type 0) (in_use in_use' : Bool) (region region' 
     (memory_of in_use' region' fits v'.value w).writes →
     log_pairs w ≡ pairs → r ≡ commit_record region' tag v'.value pairs version →
     last.records ≡ first.records ++ (r ∷ []) → place ≡ place_of r →
-    (all : List Access) → accesses ≡ Some all → IsOfAdded first last
-    (record { commits = true; place = place; accesses = all })
+    (t : Trace) → t.commits ≡ true → t.place ≡ place → accesses ≡ Some t.accesses → IsOfAdded first last t
 made fits in_use in_use' region region' c c' l l' v v' w accesses tag pairs version place first last r u o
-    tracked p is_made records at = λ all is.
-    let h = tells fits in_use in_use' region region' c c' l l' v v' w accesses all u o tracked is in
+    tracked p is_made records at = λ t commits at_place is.
+    let h = tells fits in_use in_use' region region' c c' l l' v v' w accesses t.accesses u o tracked is in
     record {
       added = r;
       records = records;
       is = record {
-        commits = refl;
-        place = at;
+        commits = commits;
+        place = at_place ∙ at;
         reads = ap (λ (x : Record). map_of x.reads) is_made
             ∙ (ap (λ (ps : List (ℕ × ℕ)). map_of ps) (record_reads region' tag v'.value pairs version) ∙ h.0);
         writes = ap (λ (x : Record). x.writes) is_made
@@ -80,44 +92,29 @@ made fits in_use in_use' region region' c c' l l' v v' w accesses tag pairs vers
     }
 
 -- an attempt that committed, and made its record, is one more
-pub more_committed : (place : CommitPosition) (accesses : Option (List Access))
-    (before after : Option (List Trace)) (v v' : Client) → HasTracedCommit place accesses before after →
-    ((all : List Access) → accesses ≡ Some all → IsOfAdded v v'
-    (record { commits = true; place = place; accesses = all })) →
-    AppendsTrace (λ t. IsOfAdded v v' t) before after
-more_committed place accesses before after v v' told was = λ all is.
-    let o = told all is in
-    let m = was o.1.accesses o.4.2 in (
-      o.0,
-      o.1,
-      o.2,
-      o.3,
-      record {
-        added = m.added;
-        records = m.records;
-        is = record {
-          commits = o.4.0;
-          place = o.4.1 ∙ m.is.place;
-          reads = m.is.reads;
-          writes = m.is.writes;
-          right = m.is.right;
-        };
-      },
-    )
-
--- the same where the attempts before it, and the client afterwards, are known by other words
 pub one_committed : {A X : Type 0} (a : A) (place : CommitPosition) (accesses : Option (List Access))
-    (first before after : Option (List Trace)) (region : RegionShown) (tag : List ℕ) (pairs : List (ℕ × ℕ)) (u : Client)
-    (version : ℕ) (v w v' : Client) → HasCommitted region tag pairs u w version → v' ≡ w → before ≡ first →
-    HasTracedCommit place accesses before after →
-    ((all : List Access) → accesses ≡ Some all → IsOfAdded v w
-    (record { commits = true; place = place; accesses = all })) →
-    (fits : List ℕ → Type 0) (here : RegionShown) → HasTracedOne fits here {A = A} {X = X} (Ok a) v v' first after
-one_committed a place accesses first before after region tag pairs u version v w v' done f e told was fits here =
+    (from begin to : ℕ) (first before after : Option (List Trace)) (region : RegionShown) (tag : List ℕ)
+    (pairs : List (ℕ × ℕ)) (u : Client) (version : ℕ) (v w v' : Client) → HasCommitted region tag pairs u w version →
+    v' ≡ w → before ≡ first →
+    HasTracedCommit place accesses begin to before after → begin ≤ to → from ≤ begin →
+    ((t : Trace) → t.commits ≡ true → t.place ≡ place → accesses ≡ Some t.accesses → IsOfAdded v w t) →
+    (fits : List ℕ → Type 0) (here : RegionShown) →
+    HasTracedOne fits here {A = A} {X = X} (Ok a) v v' from to first after
+one_committed a place accesses from begin to first before after region tag pairs u version v w v' done f e told high low
+    was fits here =
     record {
-      one = subst (λ (b : Option (List Trace)). AppendsTrace (λ t. IsOfAdded v v' t) b after) e
-          (subst (λ (x : Client). AppendsTrace (λ t. IsOfAdded v x t) before after) (sym f)
-          (more_committed place accesses before after v w told was));
+      later = omega (arith, low, high);
+      one = λ all is.
+          let o = told all is in (
+            o.0,
+            o.1,
+            sym e ∙ o.2,
+            o.3,
+            (
+              subst (λ (x : Client). IsOfAdded v x o.1) (sym f) (was o.1 o.4.0 o.4.1 o.4.2),
+              is_between from begin to o.1 low high o.4.3 o.4.4,
+            ),
+          );
     }
 
 -- some image has the reads of an attempt that has ended
@@ -140,14 +137,14 @@ pub abandoned : (fits : List ℕ → Type 0) (in_use in_use' : Bool) (region reg
     IsReaderAt renewal version begun → position ≡ begun → region' ≡ here →
     IsStanding in_use' region' v'.value size reads →
     ∥ StandsOn fits size reads ∥₁ →
-    (place : CommitPosition) (all : List Access) → position ≡ Some place → accesses ≡ Some all →
-    IsTraceOfAborted fits here last (record { commits = false; place = place; accesses = all })
+    (t : Trace) → t.commits ≡ false → position ≡ Some t.place → accesses ≡ Some t.accesses →
+    IsTraceOfAborted fits here last t
 abandoned fits in_use in_use' region region' here c c' l l' v v' w accesses begun position renewal version size reads
-    last u o tracked left of_renewal of_version reader kept at_here standing stands place all at is =
-    let h = tells fits in_use in_use' region region' c c' l l' v v' w accesses all u o tracked is in
+    last u o tracked left of_renewal of_version reader kept at_here standing stands t aborts at is =
+    let h = tells fits in_use in_use' region region' c c' l l' v v' w accesses t.accesses u o tracked is in
     record {
-      aborts = refl;
-      place = rw (sym of_renewal, sym of_version) (reader place (sym kept ∙ at));
+      aborts = aborts;
+      place = rw (sym of_renewal, sym of_version) (reader t.place (sym kept ∙ at));
       reads = ap (λ (rs : List (ℕ × ℕ)). map_of rs) left ∙ h.0;
       right = h.2;
       stands = stood fits in_use' region' here v'.value last size reads (ap (λ (x : Origin). x.in_use) o ∙ u) standing
@@ -167,8 +164,8 @@ pub abandoned_commit : (fits : List ℕ → Type 0) (in_use in_use' : Bool) (reg
     IsReaderAt renewal version begun → position ≡ begun → region' ≡ here →
     IsStanding in_use' region' v'.value size reads →
     ∥ StandsOn fits size reads ∥₁ →
-    (place : CommitPosition) (all : List Access) → position ≡ Some place → accesses ≡ Some all →
-    IsTraceOfAborted fits here last (record { commits = false; place = place; accesses = all })
+    (t : Trace) → t.commits ≡ false → position ≡ Some t.place → accesses ≡ Some t.accesses →
+    IsTraceOfAborted fits here last t
 abandoned_commit fits in_use in_use' region region' here c c' l l' v v' w accesses begun position renewal version size
     reads
     log stop last h u o tracked =
@@ -178,30 +175,34 @@ abandoned_commit fits in_use in_use' region region' here c c' l l' v v' w access
 
 -- an attempt that aborted is one more
 pub one_aborted : {A X : Type 0} (why : X) (fits : List ℕ → Type 0) (here : RegionShown)
-    (accesses : Option (List Access)) (position : Option CommitPosition) (first before after : Option (List Trace))
-    (v w last : Client) → ((place : CommitPosition) (all : List Access) → position ≡ Some place → accesses ≡ Some all →
-    IsTraceOfAborted fits here w (record { commits = false; place = place; accesses = all })) → last ≡ w →
-    before ≡ first → HasTracedAbort position accesses before after →
+    (accesses : Option (List Access)) (position : Option CommitPosition) (from begin to : ℕ)
+    (first before after : Option (List Trace)) (v w last : Client) →
+    ((t : Trace) → t.commits ≡ false → position ≡ Some t.place → accesses ≡ Some t.accesses →
+    IsTraceOfAborted fits here w t) → last ≡ w →
+    before ≡ first → HasTracedAbort position accesses begin to before after → begin ≤ to → from ≤ begin →
     last.attempt.number ≡ v.attempt.number + 1 → v.floor ≤ last.attempt.rv → last.attempt.rv ≤ last.floor →
-    HasTracedOne fits here {A = A} {X = X} (Err why) v last first after
-one_aborted why fits here accesses position first before after v w last was f e told next later known = record {
-  one = λ all is.
-      let o = told all is in
-      let h = subst (λ (x : Client). IsTraceOfAborted fits here x
-      (record { commits = false; place = o.1.place; accesses = o.1.accesses })) (sym f)
-      (was o.1.place o.1.accesses o.4.1 o.4.2) in (
-        o.0,
-        o.1,
-        sym e ∙ o.2,
-        o.3,
-        record {
-          next = next;
-          later = later;
-          known = known;
-          is = record { aborts = o.4.0; place = h.place; reads = h.reads; right = h.right; stands = h.stands };
-        },
-      );
-}
+    HasTracedOne fits here {A = A} {X = X} (Err why) v last from to first after
+one_aborted why fits here accesses position from begin to first before after v w last was f e told high low next later
+    known =
+    record {
+      later = omega (arith, low, high);
+      one = λ all is.
+          let o = told all is in (
+            o.0,
+            o.1,
+            sym e ∙ o.2,
+            o.3,
+            (
+              record {
+                next = next;
+                later = later;
+                known = known;
+                is = subst (λ (x : Client). IsTraceOfAborted fits here x o.1) (sym f) (was o.1 o.4.0 o.4.1 o.4.2);
+              },
+              is_between from begin to o.1 low high o.4.3 o.4.4,
+            ),
+          );
+    }
 
 module _ (fits : List ℕ → Type 0) (region : RegionShown) where
   given_up_more : (v : Client) (ts : List Trace) (w w' : Client) (t : Trace) → AreAborted fits region v ts w →
@@ -209,9 +210,11 @@ module _ (fits : List ℕ → Type 0) (region : RegionShown) where
   given_up_more v [] w w' t e n = (w', subst (λ (x : Client). IsListedAborted fits region x w' t) e n, refl)
   given_up_more v (x ∷ ts) w w' t h n = (h.0, h.1, given_up_more h.0 ts w w' t h.2 n)
 
--- the record of an attempt that was answered is at a version that the client knew before, or at a later one
+-- the record of an attempt that was answered is at a version that the client knew before, or at a later one, and
+-- after the writer of the version that the client knew before
 abbrev pub IsLater : {A E : Type 0} → Result A E → Client → Client → Type 0
-IsLater end w w' = IfOk end (λ _. (t : Trace) → IsOfAdded w w' t → w.floor ≤ t.place.version)
+IsLater end w w' = IfOk end (λ _. (t : Trace) → IsOfAdded w w' t → (w.floor ≤ t.place.version)
+    × (2 * w.floor < rank_of t.place))
 
 -- the aborted attempts after an attempt with this result
 abbrev pub Lists : {A E : Type 0} → RegionShown → Result A E → Client → Client → Type 0
@@ -225,7 +228,7 @@ of_end fits region (Ok a) v w w' before t same next later lists g is = (
   before,
   t,
   refl,
-  (w, g, later t is, next, lists.same),
+  (w, g, (later t is).0, (later t is).1, next, lists.same),
   record {
     added = is.added;
     records = is.records ∙ ap (λ (rs : List Record). rs ++ (is.added ∷ [])) same;
@@ -235,26 +238,33 @@ of_end fits region (Ok a) v w w' before t same next later lists g is = (
 of_end fits region (Err e) v w w' before t same next later lists g is =
     given_up_more fits region v before w w' t g (is, lists)
 
--- these attempts were made, and all of them given up
-abbrev pub AllGivenUp : (List ℕ → Type 0) → RegionShown → Client → Client → Option (List Trace) → Option (List Trace)
-    → Type 0
-AllGivenUp fits region v w before now = (all : List Trace) → now ≡ Some all →
+-- these attempts were made one after the other, and all of them given up
+abbrev pub AllGivenUp : (List ℕ → Type 0) → RegionShown → Client → Client → ℕ → ℕ → Option (List Trace)
+    → Option (List Trace) → Type 0
+AllGivenUp fits region v w from to before now = (all : List Trace) → now ≡ Some all →
     (earlier : List Trace) × (more : List Trace) × (before ≡ Some earlier)
     × (all ≡ earlier ++ more) × AreAborted fits region v more w
-    × (v.attempt.number + length more ≡ w.attempt.number)
+    × (v.attempt.number + length more ≡ w.attempt.number) × AreMadeInTurn from more to
 
-pub none_given_up : (fits : List ℕ → Type 0) (region : RegionShown) (v : Client) (before : Option (List Trace)) →
-    AllGivenUp fits region v v before before
-none_given_up fits region v before = λ all is. (all, [], is, sym (append-nil all), refl, omega arith)
+pub none_given_up : (fits : List ℕ → Type 0) (region : RegionShown) (v : Client) (from : ℕ)
+    (before : Option (List Trace)) → AllGivenUp fits region v v from from before before
+none_given_up fits region v from before = λ all is.
+    (all, [], is, sym (append-nil all), refl, omega arith, omega arith)
+
+-- one attempt, with this result, is traced after the others
+abbrev pub AppendsEnd : (List ℕ → Type 0) → RegionShown → {A E : Type 0} → Result A E → Client → Client → ℕ → ℕ
+    → Option (List Trace) → Option (List Trace) → Type 0
+AppendsEnd fits region end w w' from to before after =
+    AppendsTrace (λ t. IsOfEnd fits region end w w' t × AreMadeInTurn from (t ∷ []) to) before after
 
 more_of_end : (fits : List ℕ → Type 0) (region : RegionShown) {A E : Type 0} (end : Result A E) (v w w' : Client)
-    (a b c : Option (List Trace)) → AllGivenUp fits region v w a b →
-    AppendsTrace (IsOfEnd fits region end w w') b c → w'.attempt.number ≡ w.attempt.number + 1 →
+    (from between to : ℕ) (a b c : Option (List Trace)) → AllGivenUp fits region v w from between a b →
+    AppendsEnd fits region end w w' between to b c → w'.attempt.number ≡ w.attempt.number + 1 →
     w.records ≡ v.records → IsLater end w w' → Lists region end w w' → (all : List Trace) → c ≡ Some all →
     (earlier : List Trace) × (more : List Trace) × (a ≡ Some earlier)
     × (all ≡ earlier ++ more) × AreOfEnd fits region end v w' more
-    × (v.attempt.number + length more ≡ w'.attempt.number)
-more_of_end fits region end v w w' a b c h one next same later lists all is =
+    × (v.attempt.number + length more ≡ w'.attempt.number) × AreMadeInTurn from more to
+more_of_end fits region end v w w' from between to a b c h one next same later lists all is =
     let o = one all is in
     let t = h o.0 o.2 in
     let n = t.5 in
@@ -264,24 +274,31 @@ more_of_end fits region end v w w' a b c h one next same later lists all is =
       t.2,
       o.3 ∙ (ap (λ (l : List Trace). l ++ (o.1 ∷ [])) t.3 ∙ append_assoc t.0 t.1
           (o.1 ∷ [])),
-      of_end fits region end v w w' t.1 o.1 same next later lists t.4 o.4,
+      of_end fits region end v w w' t.1 o.1 same next later lists t.4 o.4.0,
       omega (arith, n, long, next),
+      turn_next from between to t.1 o.1 t.6 o.4.1,
     )
 
 -- one attempt more, the last one, after others that were given up
 pub traced_last : (fits : List ℕ → Type 0) (region : RegionShown) {A E : Type 0} (answer end : Result A E)
-    (v w w' : Client) (a b c : Option (List Trace)) → answer ≡ end → AllGivenUp fits region v w a b →
-    AppendsTrace (IsOfEnd fits region end w w') b c → w'.attempt.number ≡ w.attempt.number + 1 →
-    w.records ≡ v.records → IsLater end w w' → Lists region end w w' → HasTraced fits region answer v w' a c
-traced_last fits region answer end v w w' a b c is h one next same later lists =
-    rw is (record { each = more_of_end fits region end v w w' a b c h one next same later lists })
+    (v w w' : Client) (from between to : ℕ) (a b c : Option (List Trace)) → answer ≡ end → from ≤ between →
+    AllGivenUp fits region v w from between a b → HasTracedOne fits region end w w' between to b c →
+    w'.attempt.number ≡ w.attempt.number + 1 →
+    w.records ≡ v.records → IsLater end w w' → Lists region end w w' → HasTraced fits region answer v w' from to a c
+traced_last fits region answer end v w w' from between to a b c is low h one next same later lists =
+    let high = one.later in
+    rw is (record {
+      later = omega (arith, low, high);
+      each = more_of_end fits region end v w w' from between to a b c h one.one next same later lists;
+    })
 
 -- the next attempt was given up too
 pub traced_next : (fits : List ℕ → Type 0) (region : RegionShown) {A E : Type 0} (end : Result A E) (why : E)
-    (v w w' : Client) (a b c : Option (List Trace)) → end ≡ Err why → AllGivenUp fits region v w a b →
-    AppendsTrace (IsOfEnd fits region end w w') b c → w'.attempt.number ≡ w.attempt.number + 1 →
-    w.records ≡ v.records → Lists region end w w' → AllGivenUp fits region v w' a c
-traced_next fits region {A = A} end why v w w' a b c is h one next same lists =
-    more_of_end fits region {A = A} (Err why) v w w' a b c h
-    (subst (λ (r : Result A _). AppendsTrace (IsOfEnd fits region r w w') b c) is one) next same tt
+    (v w w' : Client) (from between to : ℕ) (a b c : Option (List Trace)) → end ≡ Err why →
+    AllGivenUp fits region v w from between a b → HasTracedOne fits region end w w' between to b c →
+    w'.attempt.number ≡ w.attempt.number + 1 →
+    w.records ≡ v.records → Lists region end w w' → AllGivenUp fits region v w' from to a c
+traced_next fits region {A = A} end why v w w' from between to a b c is h one next same lists =
+    more_of_end fits region {A = A} (Err why) v w w' from between to a b c h
+    (subst (λ (r : Result A _). AppendsEnd fits region r w w' between to b c) is one.one) next same tt
     (subst (λ (r : Result A _). Lists region r w w') is lists)

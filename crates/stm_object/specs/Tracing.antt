@@ -1,5 +1,6 @@
 -- Traces of the attempts of a call.
-use Rattle.std.specs.Prelude.{◌≡◌, ◌≤◌, ℕ, ◌+◌, Bool, true, false, List, [], ◌∷◌, ◌++◌, length}
+use Rattle.std.specs.Prelude.{◌≡◌, ◌≤◌, ◌<◌, ℕ, ◌+◌, ◌*◌, Bool, true, false}
+use Rattle.std.specs.Prelude.{List, [], ◌∷◌, ◌++◌, length}
 use Rattle.std.specs.Prelude.{Option, Some, None, Result, Ok, Err}
 use Rattle.std.specs.FinMap.{entries, empty}
 use Rattle.tx_memory.specs.Pairs.{map_of}
@@ -12,15 +13,25 @@ use Rattle.stm_attempt.specs.declared.conflict.Conflict.{Conflict as ConflictMet
 use Rattle.stm_attempt.specs.declared.conflict.Stop.{Stop}
 use Rattle.stm_attempt.specs.declared.conflict.Stop.TheVariants.{Memory, Conflict, Spent}
 use Rattle.stm_object.specs.declared.place.CommitPosition.{CommitPosition}
-use Rattle.stm_object.specs.Places.{place_of, reader_at}
+use Rattle.stm_object.specs.Places.{place_of, reader_at, rank_of}
 use Rattle.stm_object.specs.History.{met_in, AreTries, AddsAborted}
 
 -- an attempt that has ended: whether it committed; the commit position of its record, or of a
--- reader at its read version if it aborted; and its reads and writes, in this order
+-- reader at its read version if it aborted; its reads and writes, in this order; and the times at
+-- which it began and ended, by the tracer's clock
 pub record Trace : Type 0 where
   pub commits : Bool
   pub place : CommitPosition
   pub accesses : List Access
+  pub begin : ℕ
+  pub end : ℕ
+
+-- the attempts with these traces were made one after the other, from the first time to the last
+-- one: none began before the one before it had ended, and none ended before it began
+abbrev pub AreMadeInTurn : ℕ → List Trace → ℕ → Type 0
+AreMadeInTurn from [] to = from ≤ to
+AreMadeInTurn from (t ∷ traces) to =
+    (from ≤ t.begin) × (t.begin ≤ t.end) × AreMadeInTurn t.end traces to
 
 -- nothing was read or written yet, if the accesses are known
 abbrev pub HasNoAccess : Option (List Access) → Type 0
@@ -33,22 +44,26 @@ AppendsTrace is before after = (all : List Trace) → after ≡ Some all →
     (earlier : List Trace) × (last : Trace) × (before ≡ Some earlier)
     × (all ≡ earlier ++ (last ∷ [])) × is last
 
--- an attempt with these accesses has committed, and its record has this commit position
-abbrev pub HasTracedCommit : CommitPosition → Option (List Access) → Option (List Trace)
+-- an attempt with these accesses has committed, and its record has this commit position; the
+-- attempt began at the first of these times and ended at the last
+abbrev pub HasTracedCommit : CommitPosition → Option (List Access) → ℕ → ℕ → Option (List Trace)
     → Option (List Trace) → Type 0
-HasTracedCommit place accesses before after = AppendsTrace (λ t. (t.commits ≡ true)
-    × (t.place ≡ place) × (accesses ≡ Some t.accesses)) before after
+HasTracedCommit place accesses from to before after = AppendsTrace (λ t. (t.commits ≡ true)
+    × (t.place ≡ place) × (accesses ≡ Some t.accesses) × (t.begin ≡ from) × (t.end ≡ to))
+    before after
 
 -- the position, if it is known, is that of a reader at this renewal and this read version
 abbrev pub IsReaderAt : ℕ → ℕ → Option CommitPosition → Type 0
 IsReaderAt renewal version position = (place : CommitPosition) → position ≡ Some place →
     place ≡ reader_at renewal version
 
--- an attempt with these accesses has aborted, and is traced at this position
-abbrev pub HasTracedAbort : Option CommitPosition → Option (List Access) → Option (List Trace)
-    → Option (List Trace) → Type 0
-HasTracedAbort position accesses before after = AppendsTrace (λ t. (t.commits ≡ false)
-    × (position ≡ Some t.place) × (accesses ≡ Some t.accesses)) before after
+-- an attempt with these accesses has aborted, and is traced at this position; the attempt began at
+-- the first of these times and ended at the last
+abbrev pub HasTracedAbort : Option CommitPosition → Option (List Access) → ℕ → ℕ
+    → Option (List Trace) → Option (List Trace) → Type 0
+HasTracedAbort position accesses from to before after = AppendsTrace (λ t. (t.commits ≡ false)
+    × (position ≡ Some t.place) × (accesses ≡ Some t.accesses) × (t.begin ≡ from)
+    × (t.end ≡ to)) before after
 
 -- the attempt made this record: it committed, it has the record's commit position, its reads of
 -- words before it wrote them are the record's reads, and its last writes are the record's writes;
@@ -94,10 +109,13 @@ module _ (fits : List ℕ → Type 0) (region : RegionShown) where
   IsOfEnd (Ok a) v v' t = IsOfAdded v v' t
   IsOfEnd (Err e) v v' t = IsNextAborted v v' t
 
-  -- one attempt with this result is traced after the others
-  pub record HasTracedOne {A X : Type 0} (result : Result A X) (v v' : Client)
+  -- one attempt with this result is traced after the others; the attempt was made between these
+  -- two times
+  pub record HasTracedOne {A X : Type 0} (result : Result A X) (v v' : Client) (from to : ℕ)
       (before after : Option (List Trace)) : Type 0 where
-    pub one : AppendsTrace (IsOfEnd result v v') before after
+    pub later : from ≤ to
+    pub one : AppendsTrace (λ t. IsOfEnd result v v' t × AreMadeInTurn from (t ∷ []) to)
+        before after
 
   -- the client's next attempt aborted, this is its trace, and it is one more aborted attempt of the
   -- client
@@ -111,24 +129,29 @@ module _ (fits : List ℕ → Type 0) (region : RegionShown) where
   AreAborted v (t ∷ traces) v' = (w : Client) × IsListedAborted v w t × AreAborted w traces v'
 
   -- the attempts of a call with this result: all aborted, except that with an answer the last one
-  -- made the added record, at a version that is at least the version that the client knew before
+  -- made the added record. Let n be the version that the client knew just before this last attempt:
+  -- the record's version is at least n, and its position is after that of the writer of n
   abbrev pub AreOfEnd : {A X : Type 0} → Result A X → Client → Client → List Trace → Type 0
   AreOfEnd (Ok a) v v' traces = (before : List Trace) × (last : Trace)
       × (traces ≡ before ++ (last ∷ []))
       × ((w : Client) × AreAborted v before w × (w.floor ≤ last.place.version)
+      × (2 * w.floor < rank_of last.place)
       × (v'.attempt.number ≡ w.attempt.number + 1) × (all_aborted v' ≡ all_aborted w))
       × IsOfAdded v v' last
   AreOfEnd (Err e) v v' traces = AreAborted v traces v'
 
   -- the attempts of a call with this result are traced after the others: each attempt of the call,
-  -- once
-  -- Not said: anything if nothing is traced, or if there was no room for all attempts.
-  pub record HasTraced {A X : Type 0} (result : Result A X) (v v' : Client)
+  -- once. The attempts were made one after the other, between these two times
+  -- Not said: how the tracer's clock runs; it may stand still. If nothing is traced, or if there
+  -- was no room for all attempts, only the order of the two times is said.
+  pub record HasTraced {A X : Type 0} (result : Result A X) (v v' : Client) (from to : ℕ)
       (before after : Option (List Trace)) : Type 0 where
+    pub later : from ≤ to
     pub each : (all : List Trace) → after ≡ Some all →
         (earlier : List Trace) × (more : List Trace) × (before ≡ Some earlier)
         × (all ≡ earlier ++ more) × AreOfEnd result v v' more
         × (v.attempt.number + length more ≡ v'.attempt.number)
+        × AreMadeInTurn from more to
 
 -- the conflict that an attempt stopped for, if it stopped for one
 abbrev pub conflict_of : Stop → Option ConflictMet

@@ -29,7 +29,8 @@ pub(crate) fn try_reading<S: Object, B: Body<S>, G: Gate, T: Tracer>(
     ensures tried { AttemptedOnce S.is region.now (λ a. B.entry_of body.now a)
         (λ a. B.changes body.now a) true result client.old.value client.new.value }
     ensures traced { HasTracedOne (IsFitting S.is) region.now result client.old.value
-        client.new.value (T.ended tracer.old) (T.ended tracer.new) }
+        client.new.value (T.latest tracer.old) (T.latest tracer.new)
+        (T.ended tracer.old) (T.ended tracer.new) }
     ensures frame { T.frame tracer.new ≡ T.frame tracer.old }
     ensures tallied { T.tally tracer.new ≡ T.more (conflict_in result) (T.tally tracer.old) }
 {
@@ -80,7 +81,8 @@ pub(crate) fn try_writing<S: Object, B: Body<S>, G: Gate, T: Tracer>(
     ensures tried { AttemptedOnce S.is region.now (λ a. B.entry_of body.now a)
         (λ a. B.changes body.now a) false result client.old.value client.new.value }
     ensures traced { HasTracedOne (IsFitting S.is) region.now result client.old.value
-        client.new.value (T.ended tracer.old) (T.ended tracer.new) }
+        client.new.value (T.latest tracer.old) (T.latest tracer.new)
+        (T.ended tracer.old) (T.ended tracer.new) }
     ensures frame { T.frame tracer.new ≡ T.frame tracer.old }
     ensures tallied { T.tally tracer.new ≡ T.more (conflict_in result) (T.tally tracer.old) }
 {

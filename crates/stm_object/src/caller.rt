@@ -128,7 +128,8 @@ impl<'a, S: Object> Caller<'a, S> {
             (λ a. B.changes body.now a) (B.reads body.now) tries result
             self.old.user.value self.new.user.value }
         ensures traced { HasTraced (IsFitting S.is) self.old.shared result self.old.user.value
-            self.new.user.value (T.ended tracer.old) (T.ended tracer.new) }
+            self.new.user.value (T.latest tracer.old) (T.latest tracer.new)
+            (T.ended tracer.old) (T.ended tracer.new) }
         ensures tallied { HasTallied (λ conflict v. ConflictWasShown S.is self.old.shared
             (λ a. B.entry_of body.now a) (λ a. B.changes body.now a) (B.reads body.now)
             conflict v) T.more tries result self.old.user.value self.new.user.value

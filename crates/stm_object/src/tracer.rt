@@ -1,6 +1,6 @@
 //! Tracers of the attempts of a call.
 
-ghost use Rattle.std.specs.Prelude.{◌≡◌, List, Option, None, IfOk, IfErr, true, false};
+ghost use Rattle.std.specs.Prelude.{◌≡◌, ◌≤◌, ℕ, List, Option, None, IfOk, IfErr, true, false};
 ghost use Rattle.tx_memory.specs.declared.access.Access.{Access};
 ghost use Rattle.tx_memory.specs.Accesses.{IsTracked};
 ghost use Rattle.stm_attempt.specs.declared.conflict.Conflict.{Conflict as ConflictMet};
@@ -43,12 +43,16 @@ pub trait Tracer {
     /// attempts are traced.
     ghost position: { Self → Option CommitPositionShown };
 
+    /// The time at which the running attempt began, or at which the last attempt ended.
+    ghost latest: { Self → ℕ };
+
     /// Prepares for an attempt that is about to begin.
     fn prepare(&mut self)
         ensures frame { frame self.new ≡ frame self.old }
         ensures ended { ended self.new ≡ ended self.old }
         ensures tally { tally self.new ≡ tally self.old }
-        ensures fresh { HasNoAccess (accesses self.new) };
+        ensures fresh { HasNoAccess (accesses self.new) }
+        ensures time { latest self.old ≤ latest self.new };
 
     /// Receives the renewal and the read version of the attempt, which has just begun. If the
     /// attempt aborts, the attempt is traced as a reader in this renewal at this version.
@@ -57,7 +61,8 @@ pub trait Tracer {
         ensures ended { ended self.new ≡ ended self.old }
         ensures tally { tally self.new ≡ tally self.old }
         ensures accesses { accesses self.new ≡ accesses self.old }
-        ensures position { IsReaderAt renewal version (position self.new) };
+        ensures position { IsReaderAt renewal version (position self.new) }
+        ensures time { latest self.new ≡ latest self.old };
 
     /// Runs the body of the attempt.
     fn run<S: Object, B: Body<S>, M: TxMem>(
@@ -79,7 +84,8 @@ pub trait Tracer {
         ensures tally { tally self.new ≡ tally self.old }
         ensures position { position self.new ≡ position self.old }
         ensures tracked { IsTracked (accesses self.new)
-            (M.view memory.new).reads (M.view memory.new).writes };
+            (M.view memory.new).reads (M.view memory.new).writes }
+        ensures time { latest self.new ≡ latest self.old };
 
     /// Runs the body of the attempt, which only reads.
     fn read<S: Object, B: Body<S>, M: TxRead>(
@@ -100,23 +106,26 @@ pub trait Tracer {
         ensures tally { tally self.new ≡ tally self.old }
         ensures position { position self.new ≡ position self.old }
         ensures tracked { IsTracked (accesses self.new)
-            (M.view memory.new).reads (M.view memory.new).writes };
+            (M.view memory.new).reads (M.view memory.new).writes }
+        ensures time { latest self.new ≡ latest self.old };
 
     /// Receives the commit position of the attempt's record, after the attempt has committed or
     /// finished as a reader.
     fn commit(&mut self, place: &CommitPosition)
         ensures frame { frame self.new ≡ frame self.old }
-        ensures ended { HasTracedCommit place.now (accesses self.old)
-            (ended self.old) (ended self.new) }
-        ensures tally { tally self.new ≡ more None (tally self.old) };
+        ensures ended { HasTracedCommit place.now (accesses self.old) (latest self.old)
+            (latest self.new) (ended self.old) (ended self.new) }
+        ensures tally { tally self.new ≡ more None (tally self.old) }
+        ensures time { latest self.old ≤ latest self.new };
 
     /// Receives the reason for which the attempt has aborted. An aborted attempt has left no
     /// record, and is traced at the position that was passed to `begun`.
     fn give_up(&mut self, stop: &Stop)
         ensures frame { frame self.new ≡ frame self.old }
-        ensures ended { HasTracedAbort (position self.old) (accesses self.old) (ended self.old)
-            (ended self.new) }
-        ensures tally { tally self.new ≡ more (conflict_of stop.now) (tally self.old) };
+        ensures ended { HasTracedAbort (position self.old) (accesses self.old) (latest self.old)
+            (latest self.new) (ended self.old) (ended self.new) }
+        ensures tally { tally self.new ≡ more (conflict_of stop.now) (tally self.old) }
+        ensures time { latest self.old ≤ latest self.new };
 }
 
 /// A tracer that traces nothing.
@@ -141,6 +150,8 @@ impl Tracer for Untraced {
     ghost accesses = { λ _. None };
 
     ghost position = { λ _. None };
+
+    ghost latest = { λ _. 0 };
 
     #[inline]
     fn prepare(&mut self) {}

@@ -114,8 +114,11 @@ returns-clause-traced g c =
     c.requires.may.unplaced c.begin-attempt.ensures.value same done in
     let at = at_place c.read-answer.new.memory.region.now (g.S.Object.is.code entry) v [] v.attempt.rv
     c.renewal-renewal.result c.finish-version.result false refl (search rules) (search rules) refl in
-    one_committed _ _ _ _ _ _ _ _ _ _ _ c.args.client.now.value _ _ done (search rules) (search rules)
-    c.commit.ensures.ended
+    let prepared = c.prepare.ensures.time in
+    let began = c.begun.ensures.time in
+    let ran = c.read-answer.ensures.time in
+    one_committed _ _ _ _ _ _ _ _ _ _ _ _ _ _ c.args.client.now.value _ _ done (search rules) (search rules)
+    c.commit.ensures.ended c.commit.ensures.time (omega (arith, prepared, began, ran))
     (made (IsFitting g.S.Object.is) _ _ _ c.read-answer.new.memory.region.now _ _ 0 0
     c.begin-attempt.result.client.now c.read-answer.new.memory.client.now empty_log _ (g.S.Object.is.code entry) []
     v.attempt.rv _ c.args.client.now.value _ _
@@ -126,11 +129,15 @@ pub returns-in-Some-clause-traced : goal.returns-in-Some-clause-traced
 returns-in-Some-clause-traced g c =
     let region = ap (λ (o : Origin). o.region) c.read-answer.ensures.origin ∙ c.begin-attempt.ensures.region in
     let runs = ap (λ (x : ClientShown). is_unfinished x.value.attempt.phase) c.begin-attempt.ensures.value in
-    one_aborted _ (IsFitting g.S.Object.is) c.args.region.now _ _ _ _ _ c.args.client.now.value _ _
+    let prepared = c.prepare.ensures.time in
+    let began = c.begun.ensures.time in
+    let ran = c.read-answer.ensures.time in
+    one_aborted _ (IsFitting g.S.Object.is) c.args.region.now _ _ _ _ _ _ _ _ c.args.client.now.value _ _
     (abandoned (IsFitting g.S.Object.is) _ _ _ c.read-answer.new.memory.region.now c.args.region.now _ _ 0 0
     c.begin-attempt.result.client.now c.read-answer.new.memory.client.now empty_log _ _ _ _ _ _ _
     c.read-answer.new.memory.client.now.value
     runs c.read-answer.ensures.origin c.read-answer.ensures.tracked refl (search rules) (search rules)
     c.begun.ensures.position (search rules) region c.read-answer.new.memory.stands
     c.read-answer.new.memory.standing.stands)
-    (search rules) (search rules) c.give_up.ensures.ended (search rules) (search rules) (search rules)
+    (search rules) (search rules) c.give_up.ensures.ended c.give_up.ensures.time
+    (omega (arith, prepared, began, ran)) (search rules) (search rules) (search rules)

@@ -1,4 +1,4 @@
-use Rattle.std.proofs.Common.{rules, refl, ap, ◌∙◌, inl, inr}
+use Rattle.std.proofs.Common.{rules, refl, ap, ◌∙◌, inl, inr, arith}
 use Rattle.stm_region.specs.Shown.{RegionShown}
 use Rattle.stm_attempt.specs.Meaning.{Origin}
 use Rattle.stm_object.specs.Object.{IsFitting}
@@ -126,8 +126,12 @@ returns-in-Ok-commit-clause-traced g c =
     let last = added_last c.args.region.now c.run-answer.new.memory.region.now (g.S.Object.is.code entry) _ _ _
     c.args.client.now _ v _ (ap (λ (r : RegionShown). r.renewal) region) c.begin-attempt.ensures.earlier
     c.requires.may.unplaced c.begin-attempt.ensures.value same c.in-Ok-commit.ensures.ok in
-    one_committed _ _ _ _ _ _ _ _ _ _ _ c.args.client.now.value _ _ c.in-Ok-commit.ensures.ok (search rules)
-    (search rules) c.commit-in-Ok-commit.ensures.ended
+    let prepared = c.prepare.ensures.time in
+    let began = c.begun.ensures.time in
+    let ran = c.run-answer.ensures.time in
+    one_committed _ _ _ _ _ _ _ _ _ _ _ _ _ _ c.args.client.now.value _ _ c.in-Ok-commit.ensures.ok (search rules)
+    (search rules) c.commit-in-Ok-commit.ensures.ended c.commit-in-Ok-commit.ensures.time
+    (omega (arith, prepared, began, ran))
     (made (IsFitting g.S.Object.is) _ _ _ c.run-answer.new.memory.region.now _ _ _ _
     c.begin-attempt.result.client.now c.run-answer.new.memory.client.now _ _ (g.S.Object.is.code entry) _
     c.in-Ok-commit.version _ c.args.client.now.value _ _ c.begin-attempt.ensures.empty.2
@@ -176,7 +180,10 @@ returns-in-Err-clause-tried g c = record {
 pub returns-in-Some-clause-traced : goal.returns-in-Some-clause-traced
 returns-in-Some-clause-traced g c =
     let region = ap (λ (o : Origin). o.region) c.run-answer.ensures.origin ∙ c.begin-attempt.ensures.region in
-    one_aborted _ (IsFitting g.S.Object.is) c.args.region.now _ _ _ _ _ c.args.client.now.value _ _
+    let prepared = c.prepare.ensures.time in
+    let began = c.begun.ensures.time in
+    let ran = c.run-answer.ensures.time in
+    one_aborted _ (IsFitting g.S.Object.is) c.args.region.now _ _ _ _ _ _ _ _ c.args.client.now.value _ _
     (abandoned (IsFitting g.S.Object.is) _ _ _ c.run-answer.new.memory.region.now c.args.region.now _ _ _ _
     c.begin-attempt.result.client.now c.run-answer.new.memory.client.now _ _ _ _ _ _ _ _
     c.run-answer.new.memory.client.now.value
@@ -184,12 +191,16 @@ returns-in-Some-clause-traced g c =
     (search rules)
     c.begun.ensures.position (search rules) region c.run-answer.new.memory.stands
     c.run-answer.new.memory.standing.stands)
-    (search rules) (search rules) c.give_up.ensures.ended (search rules) (search rules) (search rules)
+    (search rules) (search rules) c.give_up.ensures.ended c.give_up.ensures.time
+    (omega (arith, prepared, began, ran)) (search rules) (search rules) (search rules)
 
 pub returns-in_default-answer-clause-traced : goal.returns-in_default-answer-clause-traced
 returns-in_default-answer-clause-traced g c =
     let region = ap (λ (o : Origin). o.region) c.run-answer.ensures.origin ∙ c.begin-attempt.ensures.region in
-    one_aborted _ (IsFitting g.S.Object.is) c.args.region.now _ _ _ _ _ c.args.client.now.value _ _
+    let prepared = c.prepare.ensures.time in
+    let began = c.begun.ensures.time in
+    let ran = c.run-answer.ensures.time in
+    one_aborted _ (IsFitting g.S.Object.is) c.args.region.now _ _ _ _ _ _ _ _ c.args.client.now.value _ _
     (abandoned (IsFitting g.S.Object.is) _ _ _ c.run-answer.new.memory.region.now c.args.region.now _ _ _ _
     c.begin-attempt.result.client.now c.run-answer.new.memory.client.now _ _ _ _ _ _ _ _
     c.run-answer.new.memory.client.now.value
@@ -197,12 +208,16 @@ returns-in_default-answer-clause-traced g c =
     (search rules)
     c.begun.ensures.position (search rules) region c.run-answer.new.memory.stands
     c.run-answer.new.memory.standing.stands)
-    (search rules) (search rules) c.give_up-in_default-answer.ensures.ended (search rules) (search rules) (search rules)
+    (search rules) (search rules) c.give_up-in_default-answer.ensures.ended c.give_up-in_default-answer.ensures.time
+    (omega (arith, prepared, began, ran)) (search rules) (search rules) (search rules)
 
 pub returns-in-Err-clause-traced : goal.returns-in-Err-clause-traced
 returns-in-Err-clause-traced g c =
     let region = ap (λ (o : Origin). o.region) c.run-answer.ensures.origin ∙ c.begin-attempt.ensures.region in
-    one_aborted _ (IsFitting g.S.Object.is) c.args.region.now _ _ _ _ _ c.args.client.now.value _ _
+    let prepared = c.prepare.ensures.time in
+    let began = c.begun.ensures.time in
+    let ran = c.run-answer.ensures.time in
+    one_aborted _ (IsFitting g.S.Object.is) c.args.region.now _ _ _ _ _ _ _ _ c.args.client.now.value _ _
     (abandoned_commit (IsFitting g.S.Object.is) _ _ _ c.run-answer.new.memory.region.now c.args.region.now _ _ _ _
     c.begin-attempt.result.client.now c.run-answer.new.memory.client.now _ _ _ _ _ _ _ _ _ _ _
     (c.in-Err.ensures.refused (search rules))
@@ -210,4 +225,5 @@ returns-in-Err-clause-traced g c =
     (search rules)
     c.begun.ensures.position (search rules) region c.run-answer.new.memory.stands
     c.run-answer.new.memory.standing.stands)
-    (search rules) (search rules) c.give_up-in-Err.ensures.ended (search rules) (search rules) (search rules)
+    (search rules) (search rules) c.give_up-in-Err.ensures.ended c.give_up-in-Err.ensures.time
+    (omega (arith, prepared, began, ran)) (search rules) (search rules) (search rules)

@@ -11,8 +11,8 @@ pub tries-preserved : goal.tries-preserved
 tries-preserved g c =
     let one : Made g.S.Object.is c.shared.inside.region (λ a. g.B.Body.entry_of c.args.body.now a)
     (λ a. g.B.Body.changes c.args.body.now a) (λ x. g.T.Tracer.frame x) (λ x. g.T.Tracer.tally x)
-    (λ k t. g.T.Tracer.more k t) (λ x. g.T.Tracer.ended x) (g.B.Body.reads c.args.body.now) c.if-reads.answer
-    c.tries.user-inside.client c.if-reads.user-inside.client c.tries.tracer c.if-reads.tracer =
+    (λ k t. g.T.Tracer.more k t) (λ x. g.T.Tracer.latest x) (λ x. g.T.Tracer.ended x) (g.B.Body.reads c.args.body.now)
+    c.if-reads.answer c.tries.user-inside.client c.if-reads.user-inside.client c.tries.tracer c.if-reads.tracer =
     elim c.if-reads.branch [
       | then-reads w ↦
           rw (w.answer-is, w.user-inside-is, w.tracer-is, sym c.only_reads-reads.ensures ∙ w.if-reads.true) (record {
@@ -41,6 +41,7 @@ tries-preserved g c =
       some = some_left _ (c.tries.left - 1) again;
       few = omega (arith, c.tries.invariant.few);
       frame = one.frame_is ∙ c.tries.invariant.frame;
+      later = let a = c.tries.invariant.later in let b = one.traced.later in omega (arith, a, b);
       trying = trying_next _ _ _ c.tries.left (c.tries.left - 1) _ _ _ _ _ _ met.0
           c.tries.invariant.trying (omega (arith, c.tries.invariant.some)) one.tried.attempt
           (no_record g.S.Object.is c.shared.inside.region (λ a. g.B.Body.entry_of c.args.body.now a)
@@ -58,16 +59,16 @@ tries-preserved g c =
           c.if-reads.answer one.tried.aborted) (λ a. not_conflict met.0 c.if-reads.answer met.1 (one.tried.alone a));
       traced = traced_next (IsFitting g.S.Object.is) c.shared.inside.region c.if-reads.answer
           (stop.Conflict met.0) c.user.inside.client.value
-          c.tries.user-inside.client.value c.if-reads.user-inside.client.value _ _ _ met.1 c.tries.invariant.traced
-          one.traced.one one.tried.attempt c.tries.invariant.trying.records one.tried.aborted;
+          c.tries.user-inside.client.value c.if-reads.user-inside.client.value _ _ _ _ _ _ met.1
+          c.tries.invariant.traced one.traced one.tried.attempt c.tries.invariant.trying.records one.tried.aborted;
     }
 
 pub returns-then-not-is_tried_again-clause-call : goal.returns-then-not-is_tried_again-clause-call
 returns-then-not-is_tried_again-clause-call g c =
     let one : Made g.S.Object.is c.shared.inside.region (λ a. g.B.Body.entry_of c.args.body.now a)
     (λ a. g.B.Body.changes c.args.body.now a) (λ x. g.T.Tracer.frame x) (λ x. g.T.Tracer.tally x)
-    (λ k t. g.T.Tracer.more k t) (λ x. g.T.Tracer.ended x) (g.B.Body.reads c.args.body.now) c.if-reads.answer
-    c.tries.user-inside.client c.if-reads.user-inside.client c.tries.tracer c.if-reads.tracer =
+    (λ k t. g.T.Tracer.more k t) (λ x. g.T.Tracer.latest x) (λ x. g.T.Tracer.ended x) (g.B.Body.reads c.args.body.now)
+    c.if-reads.answer c.tries.user-inside.client c.if-reads.user-inside.client c.tries.tracer c.if-reads.tracer =
     elim c.if-reads.branch [
       | then-reads w ↦
           rw (w.answer-is, w.user-inside-is, w.tracer-is, sym c.only_reads-reads.ensures ∙ w.if-reads.true) (record {
@@ -99,8 +100,8 @@ pub returns-then-not-is_tried_again-clause-traced : goal.returns-then-not-is_tri
 returns-then-not-is_tried_again-clause-traced g c =
     let one : Made g.S.Object.is c.shared.inside.region (λ a. g.B.Body.entry_of c.args.body.now a)
     (λ a. g.B.Body.changes c.args.body.now a) (λ x. g.T.Tracer.frame x) (λ x. g.T.Tracer.tally x)
-    (λ k t. g.T.Tracer.more k t) (λ x. g.T.Tracer.ended x) (g.B.Body.reads c.args.body.now) c.if-reads.answer
-    c.tries.user-inside.client c.if-reads.user-inside.client c.tries.tracer c.if-reads.tracer =
+    (λ k t. g.T.Tracer.more k t) (λ x. g.T.Tracer.latest x) (λ x. g.T.Tracer.ended x) (g.B.Body.reads c.args.body.now)
+    c.if-reads.answer c.tries.user-inside.client c.if-reads.user-inside.client c.tries.tracer c.if-reads.tracer =
     elim c.if-reads.branch [
       | then-reads w ↦
           rw (w.answer-is, w.user-inside-is, w.tracer-is, sym c.only_reads-reads.ensures ∙ w.if-reads.true) (record {
@@ -122,8 +123,8 @@ returns-then-not-is_tried_again-clause-traced g c =
     rw (sym c.self.view_is, sym c.shared.view_is, sym c.user.view_is)
     (traced_last (IsFitting g.S.Object.is) c.shared.inside.region c.if-reads.answer c.if-reads.answer
     c.user.inside.client.value
-    c.tries.user-inside.client.value c.if-reads.user-inside.client.value _ _ _ refl c.tries.invariant.traced
-    one.traced.one one.tried.attempt c.tries.invariant.trying.records
+    c.tries.user-inside.client.value c.if-reads.user-inside.client.value _ _ _ _ _ _ refl c.tries.invariant.later
+    c.tries.invariant.traced one.traced one.tried.attempt c.tries.invariant.trying.records
     (is_later g.S.Object.is c.shared.inside.region (λ a. g.B.Body.entry_of c.args.body.now a)
     c.tries.user-inside.client.value c.if-reads.user-inside.client.value c.if-reads.answer one.tried.records)
     one.tried.aborted)
@@ -132,8 +133,8 @@ pub returns-then-not-is_tried_again-clause-tallied : goal.returns-then-not-is_tr
 returns-then-not-is_tried_again-clause-tallied g c =
     let one : Made g.S.Object.is c.shared.inside.region (λ a. g.B.Body.entry_of c.args.body.now a)
     (λ a. g.B.Body.changes c.args.body.now a) (λ x. g.T.Tracer.frame x) (λ x. g.T.Tracer.tally x)
-    (λ k t. g.T.Tracer.more k t) (λ x. g.T.Tracer.ended x) (g.B.Body.reads c.args.body.now) c.if-reads.answer
-    c.tries.user-inside.client c.if-reads.user-inside.client c.tries.tracer c.if-reads.tracer =
+    (λ k t. g.T.Tracer.more k t) (λ x. g.T.Tracer.latest x) (λ x. g.T.Tracer.ended x) (g.B.Body.reads c.args.body.now)
+    c.if-reads.answer c.tries.user-inside.client c.if-reads.user-inside.client c.tries.tracer c.if-reads.tracer =
     elim c.if-reads.branch [
       | then-reads w ↦
           rw (w.answer-is, w.user-inside-is, w.tracer-is, sym c.only_reads-reads.ensures ∙ w.if-reads.true) (record {

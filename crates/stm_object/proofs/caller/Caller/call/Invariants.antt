@@ -15,12 +15,13 @@ invariant-tries g l = record {
   some : 1 ≤ l.left;
   few : l.left ≤ l.tries;
   frame : g.T.Tracer.frame l.tracer ≡ g.T.Tracer.frame l.initial.tracer;
+  later : g.T.Tracer.latest l.initial.tracer ≤ g.T.Tracer.latest l.tracer;
   trying : Trying (λ conflict v. ConflictWasShown g.S.Object.is l.shared-inside.region
       (λ a. g.B.Body.entry_of l.body a) (λ a. g.B.Body.changes l.body a) (g.B.Body.reads l.body) conflict v)
       (λ conflict t. g.T.Tracer.more conflict t) l.tries l.left l.initial.user-inside.client.value
       l.user-inside.client.value (g.T.Tracer.tally l.initial.tracer) (g.T.Tracer.tally l.tracer);
   traced : AllGivenUp (IsFitting g.S.Object.is) l.shared-inside.region l.initial.user-inside.client.value
-      l.user-inside.client.value
+      l.user-inside.client.value (g.T.Tracer.latest l.initial.tracer) (g.T.Tracer.latest l.tracer)
       (g.T.Tracer.ended l.initial.tracer) (g.T.Tracer.ended l.tracer);
 }
 
