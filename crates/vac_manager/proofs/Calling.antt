@@ -220,11 +220,17 @@ module _ (region : RegionShown) (t : Task) where
 
 -- the attempts of a call are traced alike however its end is told
 pub traced_as : (fits : List ℕ → Type 0) (region : RegionShown) (result : Result (Reply × CommitPosition) Stop)
-    (v v' : Client) (before after end : Option (List Trace)) → HasTraced fits region result v v' before after →
-    end ≡ after → HasTraced fits region (replied (placed_in result)) v v' before end
-traced_as fits region (Ok a) v v' before after end h e = rw e (record { each = h.each })
-traced_as fits region (Err s) v v' before after end h e = rw e (record { each = h.each })
+    (v v' : Client) (from to now : ℕ) (before after end : Option (List Trace)) →
+    HasTraced fits region result v v' from to before after → now ≡ to → end ≡ after →
+    HasTraced fits region (replied (placed_in result)) v v' from now before end
+traced_as fits region (Ok a) v v' from to now before after end h n e = rw (n, e)
+    (record { later = h.later; each = h.each })
+traced_as fits region (Err s) v v' from to now before after end h n e = rw (n, e)
+    (record { later = h.later; each = h.each })
 
-pub none_traced : (fits : List ℕ → Type 0) (region : RegionShown) (v : Client) (before : Option (List Trace)) →
-    HasTraced fits region {A = Reply} (Err fault.Arguments) v v before before
-none_traced fits region v before = record { each = λ all is. (all, [], is, sym (append-nil all), refl, omega arith) }
+pub none_traced : (fits : List ℕ → Type 0) (region : RegionShown) (v : Client) (from : ℕ)
+    (before : Option (List Trace)) → HasTraced fits region {A = Reply} (Err fault.Arguments) v v from from before before
+none_traced fits region v from before = record {
+  later = omega arith;
+  each = λ all is. (all, [], is, sym (append-nil all), refl, omega arith, omega arith);
+}

@@ -11,7 +11,7 @@ use Rattle.vac_model.specs.Code.{code}
 use Rattle.vac_manager.specs.declared.fault.Fault.{Fault}
 use Rattle.vac_manager.specs.declared.fault.Fault.TheVariants as fault
 pub use Rattle.stm_object.specs.declared.place.CommitPosition.{CommitPosition}
-pub use Rattle.stm_object.specs.Places.{place_of}
+pub use Rattle.stm_object.specs.Places.{place_of, rank_of}
 use Rattle.vac_manager.specs.declared.placed.PlacedReply.{PlacedReply}
 use Rattle.vac_manager.specs.declared.placed.CallStatistics.{CallStatistics}
 use Rattle.vac_manager.specs.declared.sites.WordKind.{WordKind}

@@ -84,7 +84,8 @@ pub fn trace_call<G: Gate, T: Tracer>(
     ensures called { HasCalledPlaced caller.old.shared task.now tries result statistics.new
         caller.old.user caller.new.user }
     ensures traced { HasTraced IsFitting caller.old.shared (replied result)
-        caller.old.user.value caller.new.user.value (T.ended tracer.old) (T.ended tracer.new) }
+        caller.old.user.value caller.new.user.value (T.latest tracer.old) (T.latest tracer.new)
+        (T.ended tracer.old) (T.ended tracer.new) }
 {
     // Asking for the own state gives the proof the invariant of the caller.
     let _ = caller.own();
@@ -113,7 +114,8 @@ pub fn trace_valid<G: Gate, T: Tracer>(
     ensures called { HasCalledPlaced caller.old.shared task.now tries result statistics.new
         caller.old.user caller.new.user }
     ensures traced { HasTraced IsFitting caller.old.shared (replied result)
-        caller.old.user.value caller.new.user.value (T.ended tracer.old) (T.ended tracer.new) }
+        caller.old.user.value caller.new.user.value (T.latest tracer.old) (T.latest tracer.new)
+        (T.ended tracer.old) (T.ended tracer.new) }
 {
     let start = caller.own().start;
     *statistics = CallStatistics::new();

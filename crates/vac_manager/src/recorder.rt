@@ -1,6 +1,6 @@
 //! Recorders of a client's completed calls.
 
-ghost use Rattle.std.specs.Prelude.{◌≡◌, List, Option, None, OnOk};
+ghost use Rattle.std.specs.Prelude.{◌≡◌, ℕ, List, Option, None, OnOk};
 ghost use Rattle.vac_manager.specs.declared.note.CompletedCall.{CompletedCall};
 ghost use Rattle.vac_manager.specs.Tracing.{Trace};
 ghost use Rattle.vac_manager.specs.Keeping.{HasKept, HasTakenOut};
@@ -22,6 +22,9 @@ pub trait Recorder {
     /// them.
     ghost traced: { Self → Option (List Trace) };
 
+    /// The last time of the recorder's tracer (`latest` of `Tracer`).
+    ghost latest: { Self → ℕ };
+
     /// The recorder has room for one more call.
     ghost ready: { Self → Type 0 };
 
@@ -31,26 +34,30 @@ pub trait Recorder {
     fn begin(&mut self) -> Result<(), AllocError>
         ensures same { notes self.new ≡ notes self.old }
         ensures traced { traced self.new ≡ traced self.old }
-        ensures room { OnOk result (ready self.new) };
+        ensures room { OnOk result (ready self.new) }
+        ensures time { latest self.new ≡ latest self.old };
 
     /// Lends the tracer for the attempts of the call that is about to begin.
     fn lend(&mut self) -> Self::Tracing
         ensures same { notes self.new ≡ notes self.old }
         ensures traced { Self.Tracing.ended result ≡ traced self.old }
-        ensures room { ready self.old → ready self.new };
+        ensures room { ready self.old → ready self.new }
+        ensures time { Self.Tracing.latest result ≡ latest self.old };
 
     /// Takes the tracer back after the call has ended.
     fn take_back(&mut self, tracer: Self::Tracing)
         ensures same { notes self.new ≡ notes self.old }
         ensures traced { traced self.new ≡ Self.Tracing.ended tracer }
-        ensures room { ready self.old → ready self.new };
+        ensures room { ready self.old → ready self.new }
+        ensures time { latest self.new ≡ Self.Tracing.latest tracer };
 
     /// Appends a completed call to the recorded calls. The call's attempt is the last one that was
     /// traced; the other traced attempts stay.
     fn keep(&mut self, task: Task, placed: PlacedReply)
         requires { ready self.old }
         ensures kept { HasKept task placed (traced self.old) (notes self.old) (notes self.new) }
-        ensures taken { HasTakenOut (traced self.old) (traced self.new) };
+        ensures taken { HasTakenOut (traced self.old) (traced self.new) }
+        ensures time { latest self.new ≡ latest self.old };
 }
 
 /// A recorder that records nothing.
@@ -65,6 +72,8 @@ impl Recorder for NoRecorder {
     ghost notes = { λ _. None };
 
     ghost traced = { λ _. None };
+
+    ghost latest = { λ _. 0 };
 
     ghost ready = { λ _. Unit {0} };
 

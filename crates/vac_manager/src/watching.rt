@@ -39,6 +39,8 @@ impl<'a, T: Tracer> Tracer for CountingTracer<'a, T> {
 
     ghost position = { λ c. T.position c.tracer.now };
 
+    ghost latest = { λ c. T.latest c.tracer.now };
+
     #[inline]
     fn prepare(&mut self) {
         self.tracer.prepare();

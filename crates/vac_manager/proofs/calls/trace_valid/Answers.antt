@@ -16,4 +16,4 @@ returns-clause-called g c = rw c.placed_of.ensures
 
 pub returns-clause-traced : goal.returns-clause-traced
 returns-clause-traced g c = rw c.placed_of.ensures
-    (traced_as _ _ c.call-answer.result _ _ _ _ _ c.call-answer.ensures.traced (search rules))
+    (traced_as _ _ c.call-answer.result _ _ _ _ _ _ _ _ c.call-answer.ensures.traced (search rules) (search rules))
