@@ -52,11 +52,13 @@ one_try tries h = grind (arith, nat_tests, h)
 
 -- what is traced between a lending and a taking back, by what the keeper has
 pub traced_by : (fits : List ℕ → Type 0) (region : RegionShown) {E : Type 0} (r : Result Reply E) (v v' : Client)
-    (a b k m : Option (List Trace)) → b ≡ a → m ≡ k →
-    HasTraced fits region r v v' b k → HasTraced fits region r v v' a m
-traced_by fits region r v v' a b k m e f h =
-    subst (λ (o : Option (List Trace)). HasTraced fits region r v v' a o) (sym f)
-    (subst (λ (o : Option (List Trace)). HasTraced fits region r v v' o k) e h)
+    (from lent end to : ℕ) (a b k m : Option (List Trace)) → lent ≡ from → to ≡ end → b ≡ a → m ≡ k →
+    HasTraced fits region r v v' lent end b k → HasTraced fits region r v v' from to a m
+traced_by fits region r v v' from lent end to a b k m begun ended e f h =
+    subst (λ (n : ℕ). HasTraced fits region r v v' n to a m) begun
+    (subst (λ (n : ℕ). HasTraced fits region r v v' lent n a m) (sym ended)
+    (subst (λ (o : Option (List Trace)). HasTraced fits region r v v' lent end a o) (sym f)
+    (subst (λ (o : Option (List Trace)). HasTraced fits region r v v' lent end o k) e h)))
 
 -- there was no room to keep the call
 pub asked_none : (region : RegionShown) (t : Task) (tries : ℕ) (e : CallStatistics) (v : Client)
@@ -118,15 +120,15 @@ attempt_more n m tries less = omega arith
 pub asked_answered : (region : RegionShown) (t : Task) (tries : ℕ) (end : Result PlacedReply Fault) (p : PlacedReply)
     (e : CallStatistics) (c c' : ClientShown) (a b k : RecorderContents) → end ≡ Ok p →
     HasCalledPlaced region t tries end e c c' →
-    HasTraced IsFitting region (replied end) c.value c'.value a.traces b.traces → b.calls ≡ a.calls →
-    HasKept t p b.traces b.calls k.calls → HasTakenOut b.traces k.traces →
-    WasAsked region t tries (Ok tt) e c.value c'.value a k
-asked_answered region t tries end p e c c' a b k is h told same kept taken =
+    HasTraced IsFitting region (replied end) c.value c'.value a.latest b.latest a.traces b.traces →
+    b.calls ≡ a.calls → HasKept t p b.traces b.calls k.calls → HasTakenOut b.traces k.traces →
+    k.latest ≡ b.latest → WasAsked region t tries (Ok tt) e c.value c'.value a k
+asked_answered region t tries end p e c c' a b k is h told same kept taken time =
     let called : HasCalledPlaced region t tries (Ok p) e c c' =
     subst (λ (r : Result PlacedReply Fault). HasCalledPlaced region t tries r e c c') is h in
-    let attempts : HasTraced IsFitting region {X = Fault} (Ok p.reply) c.value c'.value a.traces b.traces =
-    subst (λ (r : Result PlacedReply Fault). HasTraced IsFitting region (replied r) c.value c'.value a.traces b.traces)
-    is told in
+    let attempts : HasTraced IsFitting region {X = Fault} (Ok p.reply) c.value c'.value a.latest b.latest a.traces
+    b.traces = subst (λ (r : Result PlacedReply Fault). HasTraced IsFitting region (replied r) c.value c'.value a.latest
+    b.latest a.traces b.traces) is told in
     record {
       in_range = tt;
       answered = answered_one region.renewal t p.reply c.value c'.value called.call.records called.call.floor
@@ -137,7 +139,7 @@ asked_answered region t tries end p e c c' a b k is h told same kept taken =
       took = took_answered tries c.value.attempt.number c'.value.attempt.number p called.statistics.conflicts e
           called.call.attempts called.statistics.statistics called.statistics.begun;
       kept = kept_one region t p e.attempts c.value c'.value a b k called.place called.statistics.begun
-          called.call.aborted attempts same kept taken;
+          called.call.aborted attempts same kept taken time;
       ready = λ alone. record { whole = called.call.whole alone; legal = called.call.legal };
       refused = λ alone. tt;
     }
@@ -172,14 +174,14 @@ pub asked_refused : (region : RegionShown) (t : Task) (tries : ℕ) (end : Resul
     (e : CallStatistics)
     (c c' : ClientShown) (a b k : RecorderContents) → is_task t ≡ true → is_try_count tries ≡ true → end ≡ Err f →
     HasCalledPlaced region t tries end e c c' →
-    HasTraced IsFitting region (replied end) c.value c'.value a.traces b.traces → b.calls ≡ a.calls → k ≡ b →
-    WasAsked region t tries (Err f) e c.value c'.value a k
+    HasTraced IsFitting region (replied end) c.value c'.value a.latest b.latest a.traces b.traces →
+    b.calls ≡ a.calls → k ≡ b → WasAsked region t tries (Err f) e c.value c'.value a k
 asked_refused region t tries end f e c c' a b k range some is h told same kept =
     let called : HasCalledPlaced region t tries (Err f) e c c' =
     subst (λ (r : Result PlacedReply Fault). HasCalledPlaced region t tries r e c c') is h in
-    let attempts : HasTraced IsFitting region {A = Reply} (Err f) c.value c'.value a.traces b.traces =
-    subst (λ (r : Result PlacedReply Fault). HasTraced IsFitting region (replied r) c.value c'.value a.traces b.traces)
-    is told in
+    let attempts : HasTraced IsFitting region {A = Reply} (Err f) c.value c'.value a.latest b.latest a.traces b.traces =
+    subst (λ (r : Result PlacedReply Fault). HasTraced IsFitting region (replied r) c.value c'.value a.latest b.latest
+    a.traces b.traces) is told in
     let known : f ≢ fault.Arguments = λ q.
     clash (is_task t) (is_try_count tries) range some (called.call.arguments.0 (ap Err q)) in
     record {
@@ -201,11 +203,11 @@ asked_refused region t tries end f e c c' a b k range some is h told same kept =
 pub asked_recorded : (region : RegionShown) (t : Task) (tries : ℕ) (end : Result PlacedReply Fault)
     (ended : Result (Unit {0}) Fault) (e : CallStatistics) (c c' : ClientShown) (a b k : RecorderContents) →
     is_task t ≡ true → is_try_count tries ≡ true → HasCalledPlaced region t tries end e c c' →
-    HasTraced IsFitting region (replied end) c.value c'.value a.traces b.traces → b.calls ≡ a.calls →
-    HasRecorded t end ended b k → WasAsked region t tries ended e c.value c'.value a k
+    HasTraced IsFitting region (replied end) c.value c'.value a.latest b.latest a.traces b.traces →
+    b.calls ≡ a.calls → HasRecorded t end ended b k → WasAsked region t tries ended e c.value c'.value a k
 asked_recorded region t tries (Ok p) ended e c c' a b k range some called told same h =
     subst (λ (r : Result (Unit {0}) Fault). WasAsked region t tries r e c.value c'.value a k) (sym h.0)
-    (asked_answered region t tries (Ok p) p e c c' a b k refl called told same h.1 h.2)
+    (asked_answered region t tries (Ok p) p e c c' a b k refl called told same h.1 h.2 h.3)
 asked_recorded region t tries (Err f) ended e c c' a b k range some called told same h =
     subst (λ (r : Result (Unit {0}) Fault). WasAsked region t tries r e c.value c'.value a k) (sym h.0)
     (asked_refused region t tries (Err f) f e c c' a b k range some refl called told same h.1)

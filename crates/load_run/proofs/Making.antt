@@ -1,6 +1,6 @@
 -- The attempts of a client, one call after the other.
-use Rattle.std.proofs.Common.{◌≡◌, ◌∙◌, ◌+◌, ◌≤◌, ℕ, Bool, true, false, List, [], ◌∷◌, ◌++◌, Option, Some, None}
-use Rattle.std.proofs.Common.{Ok, Err, length, length-append, append_assoc, append-nil, inl, inr, refl, sym}
+use Rattle.std.proofs.Common.{◌≡◌, ◌∙◌, ◌+◌, ◌*◌, ◌≤◌, ◌<◌, ℕ, Bool, true, false, cond, List, [], ◌∷◌, ◌++◌, Option}
+use Rattle.std.proofs.Common.{Some, None, Ok, Err, length, length-append, append_assoc, append-nil, inl, inr, refl, sym}
 use Rattle.std.proofs.Common.{ap, subst, arith, if◌then◌else◌}
 use Rattle.std.proofs.lemmas.List.Elements.{All-nil, All-cons, All-append}
 use Rattle.std.specs.List.{All}
@@ -11,12 +11,13 @@ use Rattle.stm_core.specs.History.{Sub, done, keep, skip}
 use Rattle.stm_region.specs.Shown.{RegionShown}
 use Rattle.stm_object.specs.declared.place.CommitPosition.{CommitPosition}
 use Rattle.stm_object.specs.History.{AddsAborted}
-use Rattle.stm_object.specs.Places.{reader_at}
+use Rattle.stm_object.specs.Places.{reader_at, rank_of}
 use Rattle.vac_model.specs.declared.replies.Reply.{Reply}
 use Rattle.vac_manager.specs.Law.{IsFitting}
 use Rattle.vac_manager.specs.Keeping.{HasTakenOut}
 use Rattle.vac_manager.specs.Placed.{AddsAt}
 use Rattle.vac_manager.specs.Tracing.{Trace, trace_of, IsLastTraced, IsTraceOf, IsTraceOfAborted, AreAborted, HasTraced}
+use Rattle.vac_manager.specs.Tracing.{AreMadeInTurn}
 use Rattle.vac_manager.specs.declared.note.CompletedCall.{CompletedCall}
 use Rattle.vac_manager.specs.declared.note.TracedAttempt.{TracedAttempt}
 use Rattle.load_run.specs.Keeping.{AddsTraces}
@@ -52,6 +53,26 @@ ascending_both p q r (t ∷ ts) us h k = (h.0, ascending_both t.place q r ts us 
 -- the position at which a client stays
 pub stays_at : (renewal floor : ℕ) → IsNotAfter (reader_at renewal floor) (reader_at renewal floor)
 stays_at renewal floor = inr (refl, omega arith)
+
+at_most_one : (b : Bool) → cond b 0 1 ≤ 1
+at_most_one true = omega arith
+at_most_one false = omega arith
+
+-- no position of a version comes after the reader of a later version
+below_reader : (p : CommitPosition) (renewal high : ℕ) → p.version ≤ high → rank_of p ≤ rank_of (reader_at renewal high)
+below_reader p renewal high known = omega (arith, known, at_most_one p.wrote)
+
+-- ---- times
+
+turns_from : (from middle to : ℕ) (ts : List Trace) → from ≤ middle → AreMadeInTurn middle ts to →
+    AreMadeInTurn from ts to
+turns_from from middle to [] less h = omega (arith, less, h)
+turns_from from middle to (t ∷ ts) less h = (omega (arith, less, h.0), h.1, h.2)
+
+turns_both : (from middle to : ℕ) (ts us : List Trace) → AreMadeInTurn from ts middle → AreMadeInTurn middle us to →
+    AreMadeInTurn from (ts ++ us) to
+turns_both from middle to [] us h k = turns_from from middle to us h k
+turns_both from middle to (t ∷ ts) us h k = (h.0, h.1, turns_both t.end middle to ts us h.2 k)
 
 -- ---- committed and aborted attempts
 
@@ -119,12 +140,12 @@ images region v v' (t ∷ ts) h =
 at_place : (renewal low high : ℕ) (t : Trace) → t.place ≡ reader_at renewal high → low ≤ high →
     IsNotAfter (reader_at renewal low) t.place
 at_place renewal low high t e less = subst (λ (p : CommitPosition). IsNotAfter (reader_at renewal low) p) (sym e)
-    (inr (refl, less))
+    (inr (refl, omega (arith, less)))
 
 from_place : (renewal low high : ℕ) (t : Trace) → t.place ≡ reader_at renewal low → low ≤ high →
     IsNotAfter t.place (reader_at renewal high)
 from_place renewal low high t e less = subst (λ (p : CommitPosition). IsNotAfter p (reader_at renewal high)) (sym e)
-    (inr (refl, less))
+    (inr (refl, omega (arith, less)))
 
 -- aborted attempts do not go back
 ascending : (region : RegionShown) (v v' : Client) (ts : List Trace) → AreAborted IsFitting region v ts v' →
@@ -181,13 +202,14 @@ these_listed region v w v' ts aborts h e grown =
     (same_rest (all_aborted v) all.0 aborts (sym all.1 ∙ (sym e ∙ grown))) all.2
 
 -- the attempts of a call that was refused
-pub made_refused : (region : RegionShown) (v v' : Client) (ts : List Trace) (aborts : List Aborted) →
-    all_aborted v' ≡ all_aborted v ++ aborts → AreAborted IsFitting region v ts v' →
-    AreMade (reader_at region.renewal v.floor) (reader_at region.renewal v'.floor) [] [] aborts ts
-made_refused region v v' ts aborts grown h =
+pub made_refused : (region : RegionShown) (v v' : Client) (from to : ℕ) (ts : List Trace) (aborts : List Aborted) →
+    all_aborted v' ≡ all_aborted v ++ aborts → AreAborted IsFitting region v ts v' → AreMadeInTurn from ts to →
+    AreMade (reader_at region.renewal v.floor) (reader_at region.renewal v'.floor) from to [] [] aborts ts
+made_refused region v v' from to ts aborts grown h turns =
     let e = none_committed region v v' ts h in
     record {
       ascending = ascending region v v' ts h;
+      turns = turns;
       of_records = subst (λ (l : List Trace). Paired IsTraceOf l []) (sym e) none;
       of_calls = subst (λ (l : List Trace). Paired IsNotedWith [] l) (sym e) none;
       listed = subst (λ (l : List Trace). Paired IsTraceOfListed l aborts) (sym (each_aborted region v v' ts h))
@@ -197,21 +219,24 @@ made_refused region v v' ts aborts grown h =
 
 -- the attempt that committed comes last
 last_place : (renewal before after : ℕ) (t : Trace) (r : Record) → IsTraceOf t r → r.renewal ≡ renewal →
-    before ≤ t.place.version → r.version ≤ after →
+    2 * before < rank_of t.place → r.version ≤ after →
     AreAscending (reader_at renewal before) (t ∷ []) (reader_at renewal after)
 last_place renewal before after t r is here later known =
     let of : t.place.renewal ≡ r.renewal = ap (λ (p : CommitPosition). p.renewal) is.place in
-    let at : t.place.version ≡ r.version = ap (λ (p : CommitPosition). p.version) is.place in
-    (inr (sym (of ∙ here), later), inr (of ∙ here, omega (arith, at, known)))
+    let at : t.place.version ≡ r.version = ap (λ (p : CommitPosition). p.version) is.place in (
+      inr (sym (of ∙ here), omega (arith, later)),
+      inr (of ∙ here, below_reader t.place renewal after (omega (arith, at, known))),
+    )
 
 -- the attempts of a call that was answered
-pub made_answered : (region : RegionShown) (v w v' : Client) (n : CompletedCall) (r : Record) (ts : List Trace)
-    (t : Trace) (aborts : List Aborted) → AreAborted IsFitting region v ts w → w.floor ≤ t.place.version →
-    IsTraceOf t r → r.renewal ≡ region.renewal → r.version ≤ v'.floor → IsNotedWith n t →
-    all_aborted v' ≡ all_aborted w → all_aborted v' ≡ all_aborted v ++ aborts →
-    AreMade (reader_at region.renewal v.floor) (reader_at region.renewal v'.floor) (n ∷ []) (r ∷ []) aborts
+pub made_answered : (region : RegionShown) (v w v' : Client) (from to : ℕ) (n : CompletedCall) (r : Record)
+    (ts : List Trace) (t : Trace) (aborts : List Aborted) → AreAborted IsFitting region v ts w →
+    2 * w.floor < rank_of t.place → IsTraceOf t r → r.renewal ≡ region.renewal → r.version ≤ v'.floor →
+    IsNotedWith n t → all_aborted v' ≡ all_aborted w → all_aborted v' ≡ all_aborted v ++ aborts →
+    AreMadeInTurn from (ts ++ (t ∷ [])) to →
+    AreMade (reader_at region.renewal v.floor) (reader_at region.renewal v'.floor) from to (n ∷ []) (r ∷ []) aborts
     (ts ++ (t ∷ []))
-made_answered region v w v' n r ts t aborts h later is here known noted stays grown =
+made_answered region v w v' from to n r ts t aborts h later is here known noted stays grown turns =
     let one : committed_in (ts ++ (t ∷ [])) ≡ t ∷ [] = committed_both ts (t ∷ [])
     ∙ (ap (λ (l : List Trace). l ++ committed_in (t ∷ [])) (none_committed region v w ts h)
     ∙ one_committed t is.commits) in
@@ -219,6 +244,7 @@ made_answered region v w v' n r ts t aborts h later is here known noted stays gr
       ascending = ascending_both (reader_at region.renewal v.floor) (reader_at region.renewal w.floor)
           (reader_at region.renewal v'.floor) ts (t ∷ []) (ascending region v w ts h)
           (last_place region.renewal w.floor v'.floor t r is here later known);
+      turns = turns;
       of_records = subst (λ (l : List Trace). Paired IsTraceOf l (r ∷ [])) (sym one) (both is none);
       of_calls = subst (λ (l : List Trace). Paired IsNotedWith (n ∷ []) l) (sym one) (both noted none);
       listed = subst (λ (l : List Trace). Paired IsTraceOfListed l aborts)
@@ -269,11 +295,12 @@ left_two ts us ls ms h k = record {
 
 -- ---- one call after the other
 
-made_both : (p q r : CommitPosition) (ns ms : List CompletedCall) (rs qs : List Record) (gs ds : List Aborted)
-    (ts us : List Trace) → AreMade p q ns rs gs ts → AreMade q r ms qs ds us →
-    AreMade p r (ns ++ ms) (rs ++ qs) (gs ++ ds) (ts ++ us)
-made_both p q r ns ms rs qs gs ds ts us h k = record {
+made_both : (p q r : CommitPosition) (from middle to : ℕ) (ns ms : List CompletedCall) (rs qs : List Record)
+    (gs ds : List Aborted) (ts us : List Trace) → AreMade p q from middle ns rs gs ts →
+    AreMade q r middle to ms qs ds us → AreMade p r from to (ns ++ ms) (rs ++ qs) (gs ++ ds) (ts ++ us)
+made_both p q r from middle to ns ms rs qs gs ds ts us h k = record {
   ascending = ascending_both p q r ts us h.ascending k.ascending;
+  turns = turns_both from middle to ts us h.turns k.turns;
   of_records = subst (λ (l : List Trace). Paired IsTraceOf l (rs ++ qs)) (sym (committed_both ts us))
       (paired_both IsTraceOf (committed_in ts) (committed_in us) rs qs h.of_records k.of_records);
   of_calls = subst (λ (l : List Trace). Paired IsNotedWith (ns ++ ms) l) (sym (committed_both ts us))
@@ -283,10 +310,11 @@ made_both p q r ns ms rs qs gs ds ts us h k = record {
   aborted = All-append ReadsOneImageIfAborted ts us h.aborted k.aborted;
 }
 
-pub adds_both : (p q r : CommitPosition) (n m : ℕ) (ns ms : List CompletedCall) (rs qs : List Record)
-    (gs ds : List Aborted) (a b c : Option (List Trace)) → AddsTraces p q n ns rs gs a b →
-    AddsTraces q r m ms qs ds b c → AddsTraces p r (n + m) (ns ++ ms) (rs ++ qs) (gs ++ ds) a c
-adds_both p q r n m ns ms rs qs gs ds a b c h k = λ all is.
+pub adds_both : (p q r : CommitPosition) (from middle to : ℕ) (n m : ℕ) (ns ms : List CompletedCall)
+    (rs qs : List Record) (gs ds : List Aborted) (a b c : Option (List Trace)) →
+    AddsTraces p q from middle n ns rs gs a b → AddsTraces q r middle to m ms qs ds b c →
+    AddsTraces p r from to (n + m) (ns ++ ms) (rs ++ qs) (gs ++ ds) a c
+adds_both p q r from middle to n m ns ms rs qs gs ds a b c h k = λ all is.
     let o = k all is in
     let e = h o.earlier o.before_is in record {
       earlier = e.earlier;
@@ -295,14 +323,14 @@ adds_both p q r n m ns ms rs qs gs ds a b c h k = λ all is.
       all_are = o.all_are ∙ (ap (λ (l : List Trace). l ++ o.left) e.all_are ∙ append_assoc e.earlier e.left o.left);
       made = e.made ++ o.made;
       number = omega (arith, length-append e.made o.made, e.number, o.number);
-      are_made = made_both p q r ns ms rs qs gs ds e.made o.made e.are_made o.are_made;
+      are_made = made_both p q r from middle to ns ms rs qs gs ds e.made o.made e.are_made o.are_made;
       are_left = left_two e.made o.made e.left o.left e.are_left o.are_left;
     }
 
 -- no attempt
-pub adds_none : (renewal floor : ℕ) (a b : Option (List Trace)) → b ≡ a →
-    AddsTraces (reader_at renewal floor) (reader_at renewal floor) 0 [] [] [] a b
-adds_none renewal floor a b e = λ all is. record {
+pub adds_none : (renewal floor from to : ℕ) (a b : Option (List Trace)) → to ≡ from → b ≡ a →
+    AddsTraces (reader_at renewal floor) (reader_at renewal floor) from to 0 [] [] [] a b
+adds_none renewal floor from to a b time e = λ all is. record {
   earlier = all;
   before_is = sym e ∙ is;
   left = [];
@@ -311,6 +339,7 @@ adds_none renewal floor a b e = λ all is. record {
   number = refl;
   are_made = record {
     ascending = stays_at renewal floor;
+    turns = omega (arith, time);
     of_records = none;
     of_calls = none;
     listed = none;
@@ -323,11 +352,11 @@ as_many : (n m k l : ℕ) → n + m ≡ k → n + l ≡ k → m ≡ l
 as_many n m k l e f = omega (arith, e, f)
 
 -- the attempts of a call that was refused are traced
-pub adds_refused : {E : Type 0} (region : RegionShown) (f : E) (v v' : Client) (n : ℕ) (a b : Option (List Trace)) →
-    (aborts : List Aborted) → v.attempt.number + n ≡ v'.attempt.number →
-    all_aborted v' ≡ all_aborted v ++ aborts → HasTraced IsFitting region {A = Reply} (Err f) v v' a b →
-    AddsTraces (reader_at region.renewal v.floor) (reader_at region.renewal v'.floor) n [] [] aborts a b
-adds_refused region f v v' n a b aborts begun grown h = λ all is.
+pub adds_refused : {E : Type 0} (region : RegionShown) (f : E) (v v' : Client) (from to n : ℕ)
+    (a b : Option (List Trace)) → (aborts : List Aborted) → v.attempt.number + n ≡ v'.attempt.number →
+    all_aborted v' ≡ all_aborted v ++ aborts → HasTraced IsFitting region {A = Reply} (Err f) v v' from to a b →
+    AddsTraces (reader_at region.renewal v.floor) (reader_at region.renewal v'.floor) from to n [] [] aborts a b
+adds_refused region f v v' from to n a b aborts begun grown h = λ all is.
     let o = h.each all is in record {
       earlier = o.0;
       before_is = o.2;
@@ -335,7 +364,7 @@ adds_refused region f v v' n a b aborts begun grown h = λ all is.
       all_are = o.3;
       made = o.1;
       number = as_many v.attempt.number (length o.1) v'.attempt.number n o.5 begun;
-      are_made = made_refused region v v' o.1 aborts grown o.4;
+      are_made = made_refused region v v' from to o.1 aborts grown o.4 o.6;
       are_left = all_left o.1;
     }
 
@@ -380,13 +409,13 @@ noted_with None b all ts t is e last = tt
 
 -- the attempts of a call that was answered are traced, and its last one may be taken out
 pub adds_answered : {E : Type 0} (region : RegionShown) (tag : List ℕ) (place : CommitPosition) (reply : Reply)
-    (v v' : Client) (note : CompletedCall) (n : ℕ) (a b c : Option (List Trace)) (aborts : List Aborted) →
+    (v v' : Client) (note : CompletedCall) (from to n : ℕ) (a b c : Option (List Trace)) (aborts : List Aborted) →
     (adds : AddsAt region.renewal tag place v v') → v.attempt.number + n ≡ v'.attempt.number →
-    all_aborted v' ≡ all_aborted v ++ aborts → HasTraced IsFitting region {X = E} (Ok reply) v v' a b →
+    all_aborted v' ≡ all_aborted v ++ aborts → HasTraced IsFitting region {X = E} (Ok reply) v v' from to a b →
     IfSome note.attempt (λ x. IsLastTraced b (trace_of x.value)) → HasTakenOut b c →
-    AddsTraces (reader_at region.renewal v.floor) (reader_at region.renewal v'.floor) n (note ∷ [])
+    AddsTraces (reader_at region.renewal v.floor) (reader_at region.renewal v'.floor) from to n (note ∷ [])
     (adds.adds.added ∷ []) aborts a c
-adds_answered region tag place reply v v' note n a b c aborts adds begun grown h noted taken =
+adds_answered region tag place reply v v' note from to n a b c aborts adds begun grown h noted taken =
     λ all is. elim (taken all is) [
       | inl same ↦ (
           let o = h.each all same in
@@ -418,14 +447,15 @@ adds_answered region tag place reply v v' note n a b c aborts adds begun grown h
     ]
   where
     made : (all : List Trace) (same : b ≡ Some all) → AreMade (reader_at region.renewal v.floor)
-        (reader_at region.renewal v'.floor) (note ∷ []) (adds.adds.added ∷ []) aborts (h.each all same).1
+        (reader_at region.renewal v'.floor) from to (note ∷ []) (adds.adds.added ∷ []) aborts (h.each all same).1
     made all same =
         let o = h.each all same in
         let k = o.4 in
         let made_it : IsTraceOf k.1 adds.adds.added = subst (λ (x : Record). IsTraceOf k.1 x)
         (same_last v.records v.records k.4.added adds.adds.added (sym k.4.records ∙ adds.adds.records)) k.4.is in
         subst (λ (l : List Trace). AreMade (reader_at region.renewal v.floor) (reader_at region.renewal v'.floor)
-        (note ∷ []) (adds.adds.added ∷ []) aborts l) (sym k.2)
-        (made_answered region v k.3.0 v' note adds.adds.added k.0 k.1 aborts k.3.1 k.3.2 made_it adds.adds.renewal_is
-        adds.adds.known (noted_with note.attempt b all (o.0 ++ k.0) k.1 same
-        (o.3 ∙ (ap (λ (l : List Trace). o.0 ++ l) k.2 ∙ sym (append_assoc o.0 k.0 (k.1 ∷ [])))) noted) k.3.4 grown)
+        from to (note ∷ []) (adds.adds.added ∷ []) aborts l) (sym k.2)
+        (made_answered region v k.3.0 v' from to note adds.adds.added k.0 k.1 aborts k.3.1 k.3.3 made_it
+        adds.adds.renewal_is adds.adds.known (noted_with note.attempt b all (o.0 ++ k.0) k.1 same
+        (o.3 ∙ (ap (λ (l : List Trace). o.0 ++ l) k.2 ∙ sym (append_assoc o.0 k.0 (k.1 ∷ [])))) noted) k.3.5 grown
+        (subst (λ (l : List Trace). AreMadeInTurn from l to) k.2 o.6))

@@ -46,7 +46,8 @@ are_kept_both first middle last n m rs qs gs ds a b c p q = record {
   kept = q.kept
       ∙ (ap (λ (k : Option (List CompletedCall)). notes_behind k q.notes) p.kept
       ∙ behind_both a.calls p.notes q.notes);
-  traced = adds_both first middle last n m p.notes q.notes rs qs gs ds a.traces b.traces c.traces p.traced q.traced;
+  traced = adds_both first middle last a.latest b.latest c.latest n m p.notes q.notes rs qs gs ds a.traces b.traces
+      c.traces p.traced q.traced;
 }
 
 -- nothing was added, and nothing kept
@@ -62,14 +63,16 @@ kept_none renewal v a b e = record {
     notes = [];
     are_of = none;
     kept = ap (λ (k : RecorderContents). k.calls) e ∙ sym (behind_none a.calls);
-    traced = adds_none renewal v.floor a.traces b.traces (ap (λ (k : RecorderContents). k.traces) e);
+    traced = adds_none renewal v.floor a.latest b.latest a.traces b.traces
+        (ap (λ (k : RecorderContents). k.latest) e) (ap (λ (k : RecorderContents). k.traces) e);
   };
 }
 
 -- a call that was refused is not recorded, and its attempts are traced
 pub kept_refused : (region : RegionShown) (f : Fault) (n : ℕ) (v v' : Client) (a b c : RecorderContents) →
     v'.records ≡ v.records → v.attempt.number + n ≡ v'.attempt.number → GrowsAborted v v' →
-    HasTraced IsFitting region {A = Reply} (Err f) v v' a.traces b.traces → b.calls ≡ a.calls → c ≡ b →
+    HasTraced IsFitting region {A = Reply} (Err f) v v' a.latest b.latest a.traces b.traces → b.calls ≡ a.calls →
+    c ≡ b →
     HasKeptAdded region.renewal v v' a c
 kept_refused region f n v v' a b c same begun grows attempts calls e = record {
   added = [];
@@ -82,18 +85,17 @@ kept_refused region f n v v' a b c same begun grows attempts calls e = record {
     notes = [];
     are_of = none;
     kept = ap (λ (k : RecorderContents). k.calls) e ∙ (calls ∙ sym (behind_none a.calls));
-    traced = subst (λ (o : Option (List Trace)). AddsTraces (reader_at region.renewal v.floor)
-        (reader_at region.renewal v'.floor) n [] [] grows.0 a.traces o)
-        (sym (ap (λ (k : RecorderContents). k.traces) e))
-        (adds_refused {E = Fault} region f v v' n a.traces b.traces grows.0 begun grows.1 attempts);
+    traced = subst (λ (k : RecorderContents). AddsTraces (reader_at region.renewal v.floor)
+        (reader_at region.renewal v'.floor) a.latest k.latest n [] [] grows.0 a.traces k.traces) (sym e)
+        (adds_refused {E = Fault} region f v v' a.latest b.latest n a.traces b.traces grows.0 begun grows.1 attempts);
   };
 }
 
 -- the last attempt that was traced is the one that was answered
 is_of_answer : (fits : List ℕ → Type 0) (region : RegionShown) (reply : Reply) (v v' : Client)
-    (before traced : Option (List Trace)) (t : Trace) →
-    HasTraced fits region {X = Fault} (Ok reply) v v' before traced → IsLastTraced traced t → IsOfAdded v v' t
-is_of_answer fits region reply v v' before traced t h last =
+    (from to : ℕ) (before traced : Option (List Trace)) (t : Trace) →
+    HasTraced fits region {X = Fault} (Ok reply) v v' from to before traced → IsLastTraced traced t → IsOfAdded v v' t
+is_of_answer fits region reply v v' from to before traced t h last =
     let k = h.each (last.0 ++ (t ∷ [])) last.1 in
     let a = k.4 in
     let e : last.0 ++ (t ∷ []) ≡ (k.0 ++ a.0) ++ (a.1 ∷ []) =
@@ -108,21 +110,22 @@ is_of_record v v' r t e h = subst (λ (x : Record). IsTraceOf t x)
 
 -- so did the one that is noted, if any is
 noted_made : (fits : List ℕ → Type 0) (region : RegionShown) (o : Option (Box TracedAttempt)) (reply : Reply)
-    (v v' : Client) (r : Record)
+    (v v' : Client) (r : Record) (from to : ℕ)
     (before traced : Option (List Trace)) → v'.records ≡ v.records ++ (r ∷ []) →
-    HasTraced fits region {X = Fault} (Ok reply) v v' before traced →
+    HasTraced fits region {X = Fault} (Ok reply) v v' from to before traced →
     IfSome o (λ a. IsLastTraced traced (trace_of a.value)) → IfSome o (λ a. IsTraceOf (trace_of a.value) r)
-noted_made fits region (Some a) reply v v' r before traced e h last = is_of_record v v' r (trace_of a.value) e
-    (is_of_answer fits region reply v v' before traced (trace_of a.value) h last)
-noted_made fits region None reply v v' r before traced e h last = tt
+noted_made fits region (Some a) reply v v' r from to before traced e h last = is_of_record v v' r (trace_of a.value) e
+    (is_of_answer fits region reply v v' from to before traced (trace_of a.value) h last)
+noted_made fits region None reply v v' r from to before traced e h last = tt
 
 -- the call that added a record was kept
 pub kept_one : (region : RegionShown) (t : Task) (p : PlacedReply) (n : ℕ) (v v' : Client) (a b c : RecorderContents) →
     AddsAt region.renewal (code t p.reply) p.place v v' → v.attempt.number + n ≡ v'.attempt.number →
     GrowsAborted v v' →
-    HasTraced IsFitting region {X = Fault} (Ok p.reply) v v' a.traces b.traces → b.calls ≡ a.calls →
-    HasKept t p b.traces b.calls c.calls → HasTakenOut b.traces c.traces → HasKeptAdded region.renewal v v' a c
-kept_one region t p n v v' a b c adds begun grows attempts same h taken = record {
+    HasTraced IsFitting region {X = Fault} (Ok p.reply) v v' a.latest b.latest a.traces b.traces →
+    b.calls ≡ a.calls → HasKept t p b.traces b.calls c.calls → HasTakenOut b.traces c.traces →
+    c.latest ≡ b.latest → HasKeptAdded region.renewal v v' a c
+kept_one region t p n v v' a b c adds begun grows attempts same h taken time = record {
   added = adds.adds.added ∷ [];
   records = adds.adds.records;
   attempts = n;
@@ -134,12 +137,14 @@ kept_one region t p n v v' a b c adds begun grows attempts same h taken = record
     are_of = both (record {
       tag = rw h.task (rw h.reply adds.adds.tag_is);
       place = h.place ∙ adds.place_is;
-      attempt = noted_made IsFitting region h.note.attempt p.reply v v' adds.adds.added a.traces b.traces
-          adds.adds.records attempts h.attempt;
+      attempt = noted_made IsFitting region h.note.attempt p.reply v v' adds.adds.added a.latest b.latest a.traces
+          b.traces adds.adds.records attempts h.attempt;
     }) none;
     kept = h.kept ∙ ap (λ (k : Option (List CompletedCall)). notes_behind k (h.note ∷ [])) same;
-    traced = adds_answered {E = Fault} region (code t p.reply) p.place p.reply v v' h.note n a.traces b.traces
-        c.traces grows.0 adds begun grows.1 attempts h.attempt taken;
+    traced = subst (λ (to : ℕ). AddsTraces (reader_at region.renewal v.floor) (reader_at region.renewal v'.floor)
+        a.latest to n (h.note ∷ []) (adds.adds.added ∷ []) grows.0 a.traces c.traces) (sym time)
+        (adds_answered {E = Fault} region (code t p.reply) p.place p.reply v v' h.note a.latest b.latest n a.traces
+        b.traces c.traces grows.0 adds begun grows.1 attempts h.attempt taken);
   };
 }
 
@@ -205,6 +210,7 @@ kept_from p q last n rs gs a b less h = record {
         number = o.number;
         are_made = record {
           ascending = ascending_from p q last o.made less k.ascending;
+          turns = k.turns;
           of_records = k.of_records;
           of_calls = k.of_calls;
           listed = k.listed;

@@ -192,8 +192,8 @@ pub record HasKeptShare {D : Type 0} (leads : D → ℕ → D → Type 0) (s : S
 -- gathered: exactly the records of the completed tasks come after the earlier records, those of
 -- each client in their order, and the slot of each client is as its tasks left it. The number of
 -- attempts is the sum of those of the clients. Each aborted attempt of their traces, and each of
--- the earlier ones, is one of the later ones. A single client meets no conflict, and if the clock
--- has time, none of its tasks finds the clock spent
+-- the earlier ones, is one of the later ones. No task of a single client is busy, and if the clock
+-- has time, none finds the clock spent
 pub record RanAll {D P : Type 0} (leads : D → ℕ → D → Type 0) (s : Settings)
     (shown_of : P → SlotShown D) (n from to : ℕ) (before : List Record) (slots : List P)
     (after : List Record) (left : List P) (t : Outcomes) (attempts : ℕ)

@@ -9,9 +9,9 @@ use Rattle.stm_core.specs.History.{Sub}
 use Rattle.stm_region.specs.Findings.{StandsOn}
 use Rattle.vac_manager.specs.declared.note.CompletedCall.{CompletedCall}
 use Rattle.vac_manager.specs.Law.{IsFitting}
-use Rattle.stm_object.specs.Places.{reader_at}
+use Rattle.stm_object.specs.Places.{reader_at, rank_of}
 use Rattle.vac_manager.specs.Placed.{CommitPosition}
-use Rattle.vac_manager.specs.Tracing.{Trace, trace_of, IsTraceOf}
+use Rattle.vac_manager.specs.Tracing.{Trace, trace_of, IsTraceOf, AreMadeInTurn}
 use Rattle.load_run.specs.Lists.{Paired}
 
 -- each read of the traced attempt gives what the attempt wrote or read at the address before, and
@@ -39,13 +39,13 @@ abbrev pub aborted_in : List Trace → List Trace
 aborted_in [] = []
 aborted_in (t ∷ ts) = if t.commits then aborted_in ts else t ∷ aborted_in ts
 
--- the first position is of an earlier renewal than the second, or of the same renewal and no later
--- version
+-- the first position is not after the second one in the order of positions: by renewal, then by
+-- version with the writer of a version before its readers
 abbrev pub IsNotAfter : CommitPosition → CommitPosition → Type 0
-IsNotAfter p q = (p.renewal < q.renewal) ⊎ ((p.renewal ≡ q.renewal) × (p.version ≤ q.version))
+IsNotAfter p q = (p.renewal < q.renewal) ⊎ ((p.renewal ≡ q.renewal) × (rank_of p ≤ rank_of q))
 
 -- from the first position to the last one, no attempt comes after the next: within a renewal,
--- versions do not decrease
+-- versions do not decrease, and no writer of a version comes after a reader of this version
 abbrev pub AreAscending : CommitPosition → List Trace → CommitPosition → Type 0
 AreAscending first [] last = IsNotAfter first last
 AreAscending first (t ∷ ts) last = IsNotAfter first t.place × AreAscending t.place ts last
@@ -63,13 +63,16 @@ pub record IsTraceOfListed (t : Trace) (a : Aborted) : Type 0 where
   pub reads : map_of a.reads ≡ reads_behind empty empty t.accesses
   pub right : are_right empty empty t.accesses ≡ true
 
--- a client made the attempts with these traces, one after the other, in the order of the list. The
--- committed ones made these records, one attempt for each record, in their order, and are the
--- attempts of these calls. The aborted ones are these aborted attempts, in their order, and each
--- read one image
-pub record AreMade (first last : CommitPosition) (calls : List CompletedCall)
+-- a client made the attempts with these traces, one after the other, in the order of the list.
+-- Their positions ascend from the first position to the last one. They were made between the times
+-- `from` and `to`, and each attempt ended no later than the next one began. The committed ones made
+-- these records, one attempt for each record, in their order, and are the attempts of these calls.
+-- The aborted ones are these aborted attempts, in their order, and each read one image
+-- Not said: how the clock of the times runs. All attempts may have the same time.
+pub record AreMade (first last : CommitPosition) (from to : ℕ) (calls : List CompletedCall)
     (records : List Record) (aborts : List Aborted) (made : List Trace) : Type 0 where
   pub ascending : AreAscending first made last
+  pub turns : AreMadeInTurn from made to
   pub of_records : Paired IsTraceOf (committed_in made) records
   pub of_calls : Paired IsNotedWith calls (committed_in made)
   pub listed : Paired IsTraceOfListed (aborted_in made) aborts

@@ -15,7 +15,8 @@ pub(crate) fn with_room<K: Recorder>(
     task: Result<Task, AllocError>,
     keep: &mut K,
 ) -> Result<Task, AllocError>
-    ensures same { contents K.notes K.traced keep.new ≡ contents K.notes K.traced keep.old }
+    ensures same { contents K.notes K.traced K.latest keep.new
+        ≡ contents K.notes K.traced K.latest keep.old }
     ensures task { IfOk result (λ t. task ≡ Built t) }
     ensures room { IfOk result (λ _. K.ready keep.new) }
 {
@@ -34,7 +35,8 @@ pub(crate) fn record_call<G: Gate, K: Recorder>(
 ) -> Result<(), Fault>
     requires room { K.ready keep.old }
     ensures { HasRecorded task end result
-        (contents K.notes K.traced keep.old) (contents K.notes K.traced keep.new) }
+        (contents K.notes K.traced K.latest keep.old)
+        (contents K.notes K.traced K.latest keep.new) }
 {
     match end {
         Ok(placed) => {

@@ -63,7 +63,8 @@ fn open_load<D: Draws, K: Recorder>(
     ensures alone { IfOk result (λ r. IsAloneInRenewal (caller_of r.0 r.1)) }
     ensures kept { IfOk result (λ r. AreKept r.1.value.attempt.number r.1.value.records
         (all_aborted r.1.value)
-        (contents K.notes K.traced keep.old) (contents K.notes K.traced keep.new)) }
+        (contents K.notes K.traced K.latest keep.old)
+        (contents K.notes K.traced K.latest keep.new)) }
     ensures stopped { IfErr result (λ fault.
         IsStopOfLoad D.leads settings.now opening.old opening.new fault) }
 {
@@ -179,9 +180,10 @@ impl<D: Draws + Send + Drop, G: Gate + Send + Drop, K: Recorder + Send + Drop> L
         K::Tracing: Send,
         ensures kept { IfOk result (λ r. LoadedKept D.leads self.plan.settings (λ slot. slot.draws)
             self.draws self.slots.items r.0.outcomes r.0.report r.1.attempts
-            (contents K.notes K.traced self.keep) (contents K.notes K.traced r.2.opening)
-            (kept_at (contents K.notes K.traced) self.slots.items)
-            (map (contents K.notes K.traced) r.2.clients.items)) }
+            (contents K.notes K.traced K.latest self.keep)
+            (contents K.notes K.traced K.latest r.2.opening)
+            (kept_at (contents K.notes K.traced K.latest) self.slots.items)
+            (map (contents K.notes K.traced K.latest) r.2.clients.items)) }
         ensures statistics { IfOk result (λ r. AreStatistics self.plan.settings.tries r.0.outcomes
             r.1) }
         ensures refused { IfErr result (λ fault.

@@ -38,7 +38,8 @@ pub fn count_loop<D: Draws, G: Gate, K: Recorder>(
         ≡ caller.new.user.value.attempt.number }
     ensures kept { HasKeptAdded caller.old.shared.renewal
         caller.old.user.value caller.new.user.value
-        (contents K.notes K.traced keep.old) (contents K.notes K.traced keep.new) }
+        (contents K.notes K.traced K.latest keep.old)
+        (contents K.notes K.traced K.latest keep.new) }
 {
     let mut outcomes = TaskCounts::new(settings.tries);
     let mut statistics = CallStatistics::new();

@@ -30,7 +30,8 @@ fn ask_for<K: Recorder>(
     ensures caller { GoesOn caller.old caller.new }
     ensures grants { HasAllGrants caller.new.user.value }
     ensures answered { IfOk result (λ _. WasAnswered command caller.old caller.new
-        (contents K.notes K.traced keep.old) (contents K.notes K.traced keep.new)) }
+        (contents K.notes K.traced K.latest keep.old)
+        (contents K.notes K.traced K.latest keep.new)) }
     ensures refused { IfErr result (λ fault. WasRefused fault caller.old caller.new) }
 {
     let task = Task::One(command);
@@ -65,7 +66,8 @@ fn add_item<D: Draws, K: Recorder>(
         caller.old caller.new draws.old draws.new }
     ensures kept { IfOk result (λ _. HasKeptAdded caller.old.shared.renewal
         caller.old.user.value caller.new.user.value
-        (contents K.notes K.traced keep.old) (contents K.notes K.traced keep.new)) }
+        (contents K.notes K.traced K.latest keep.old)
+        (contents K.notes K.traced K.latest keep.new)) }
 {
     let command = draw_stock(draws, id, kind);
     ask_for(caller, command, keep)
@@ -84,7 +86,8 @@ fn add_items<D: Draws, K: Recorder>(
         caller.old caller.new draws.old draws.new }
     ensures kept { IfOk result (λ _. HasKeptAdded caller.old.shared.renewal
         caller.old.user.value caller.new.user.value
-        (contents K.notes K.traced keep.old) (contents K.notes K.traced keep.new)) }
+        (contents K.notes K.traced K.latest keep.old)
+        (contents K.notes K.traced K.latest keep.new)) }
 {
     add_item(caller, draws, id, Kind::Car, keep)?;
     add_item(caller, draws, id, Kind::Flight, keep)?;
@@ -109,7 +112,8 @@ pub fn open_kept<D: Draws, K: Recorder>(
         caller.old caller.new draws.old draws.new }
     ensures kept { IfOk result (λ _. HasKeptAdded caller.old.shared.renewal
         caller.old.user.value caller.new.user.value
-        (contents K.notes K.traced keep.old) (contents K.notes K.traced keep.new)) }
+        (contents K.notes K.traced K.latest keep.old)
+        (contents K.notes K.traced K.latest keep.new)) }
 {
     'items: for place in 0..settings.items {
         add_items(caller, draws, place + 1, keep)?;

@@ -53,7 +53,8 @@ impl Plan {
         requires ready { IsReadyForRound self.settings (caller_of manager client) }
         ensures manager { IfOk result (λ r. r.manager ≡ manager) }
         ensures round { IfOk result (λ r. IsRound self.settings r) }
-        ensures ran { IfOk result (λ r. RoundHasRun D.leads (shown (contents K.notes K.traced))
+        ensures ran { IfOk result (λ r. RoundHasRun D.leads
+            (shown (contents K.notes K.traced K.latest))
             self.settings self.settings.tasks (caller_of manager client) slots.items r) }
         ensures refused { IfErr result (λ fault. IsLoadRefusal fault) }
     {
@@ -66,8 +67,8 @@ impl Plan {
             thread::scope_env(),
             rt,
             move |scope| -> Result<Crew<'_, Slot<D, G, K>>, LoadFault>
-                ensures { RunsCrew D.leads (shown (contents K.notes K.traced)) self.settings
-                    crew.entry result }
+                ensures { RunsCrew D.leads (shown (contents K.notes K.traced K.latest))
+                    self.settings crew.entry result }
             {
                 // Moved whole, so that the closure does not capture single fields.
                 let workers = crew;

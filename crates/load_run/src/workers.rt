@@ -35,7 +35,7 @@ pub(crate) struct WorkerPromise<'m, W> {
 impl<'m, D: Draws, G, K: Recorder> Promise<Worker<'m, Slot<D, G, K>>>
     for WorkerPromise<'m, Slot<D, G, K>> {
     ghost kept_by = { λ p r.
-        DidWork D.leads (shown (contents K.notes K.traced)) p.settings p.worker.value r };
+        DidWork D.leads (shown (contents K.notes K.traced K.latest)) p.settings p.worker.value r };
 }
 
 /// The thread of a worker.
@@ -61,7 +61,7 @@ pub(crate) fn join_all<'m, R: Threads, D: Draws + Drop, G: Drop, K: Recorder + D
     requires room { vec_len handles ≤ vec_capacity done }
     requires empty { done.items ≡ [] }
     ensures { Paired
-        (λ h r. DidWork D.leads (shown (contents K.notes K.traced)) h.promise.settings
+        (λ h r. DidWork D.leads (shown (contents K.notes K.traced K.latest)) h.promise.settings
         h.promise.worker.value r)
         handles.entry.items result.items }
 {
@@ -98,7 +98,7 @@ impl Plan {
             worker: Snapshot::of(&worker),
         };
         let run = move || -> Worker<'_, Slot<D, G, K>>
-            ensures { DidWork D.leads (shown (contents K.notes K.traced)) self.settings
+            ensures { DidWork D.leads (shown (contents K.notes K.traced K.latest)) self.settings
                 worker.entry result }
         {
             // Moved whole, so that the closure does not capture single fields of both.

@@ -44,8 +44,8 @@ returns-clause-kept g c =
     ap (λ (x : ClientShown). x.value.attempt.number) c.in-Ok.ensures.ok.client_is in
     let none : all_aborted c.in-Ok.client.value ≡ [] =
     ap (λ (x : ClientShown). all_aborted x.value) c.in-Ok.ensures.ok.client_is in
-    let before = contents g.K.Recorder.notes g.K.Recorder.traced c.args.keep.now in
-    let now = contents g.K.Recorder.notes g.K.Recorder.traced c.open_kept.new.keep in
+    let before = contents g.K.Recorder.notes g.K.Recorder.traced g.K.Recorder.latest c.args.keep.now in
+    let now = contents g.K.Recorder.notes g.K.Recorder.traced g.K.Recorder.latest c.open_kept.new.keep in
     let kept : HasKeptAdded c.in-Ok.manager.renewal c.in-Ok.client.value after before now =
     subst (λ (y : CallerShown). HasKeptAdded y.shared.renewal y.user.value after before now) c.caller-caller.ensures
     c.in_default-open_kept.ensures.kept in

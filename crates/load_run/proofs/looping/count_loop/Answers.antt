@@ -28,8 +28,8 @@ tasks-init g c = record {
 pub tasks-preserved-in_default : goal.tasks-preserved-in_default
 tasks-preserved-in_default g c =
     let i = issued_none c.tasks.caller.shared c.draw_task-drawn.result c.args.settings.now.tries c.new.result
-    c.tasks.caller.user.value (contents g.K.Recorder.notes g.K.Recorder.traced c.tasks.keep)
-    (contents g.K.Recorder.notes g.K.Recorder.traced c.with_room.new.keep)
+    c.tasks.caller.user.value (contents g.K.Recorder.notes g.K.Recorder.traced g.K.Recorder.latest c.tasks.keep)
+    (contents g.K.Recorder.notes g.K.Recorder.traced g.K.Recorder.latest c.with_room.new.keep)
     (some_tries c.args.settings.now c.requires.settings) c.new.ensures c.with_room.ensures.same in
     record {
       caller = c.tasks.invariant.caller;
@@ -55,8 +55,9 @@ tasks-preserved-in_default g c =
       );
       kept = kept_both _ _ _ _ _ _ _ c.tasks.invariant.kept
           (of_manager (λ m. HasKeptAdded m.renewal c.tasks.caller.user.value c.tasks.caller.user.value
-          (contents g.K.Recorder.notes g.K.Recorder.traced c.tasks.keep)
-          (contents g.K.Recorder.notes g.K.Recorder.traced c.with_room.new.keep)) c.args.caller.now c.tasks.caller
+          (contents g.K.Recorder.notes g.K.Recorder.traced g.K.Recorder.latest c.tasks.keep)
+          (contents g.K.Recorder.notes g.K.Recorder.traced g.K.Recorder.latest c.with_room.new.keep))
+          c.args.caller.now c.tasks.caller
           c.tasks.invariant.caller i.kept);
     }
 
@@ -64,11 +65,13 @@ pub count-requires-in-tasks-clause-took : goal.count-requires-in-tasks-clause-to
 count-requires-in-tasks-clause-took g c =
     let asked = asked_recorded c.tasks.caller.shared c.in-Ok.task c.args.settings.now.tries c.trace_valid-end.result
     c.record_call-end.result c.trace_valid-end.new.statistics c.tasks.caller.user c.trace_valid-end.new.caller.user
-    (contents g.K.Recorder.notes g.K.Recorder.traced c.tasks.keep) _
-    (contents g.K.Recorder.notes g.K.Recorder.traced c.record_call-end.new.keep)
+    (contents g.K.Recorder.notes g.K.Recorder.traced g.K.Recorder.latest c.tasks.keep) _
+    (contents g.K.Recorder.notes g.K.Recorder.traced g.K.Recorder.latest c.record_call-end.new.keep)
     (subst (λ (x : Result Task _). IfOk x (λ t. is_task t ≡ true)) c.in-Ok.ensures.task c.draw_task-drawn.ensures.range)
     (some_tries c.args.settings.now c.requires.settings) c.trace_valid-end.ensures.called
-    (traced_by _ _ _ _ _ _ _ _ _
+    (traced_by _ _ _ _ _ _ _ _ _ _ _ _ _
+    (c.lend-tracer.ensures.time ∙ ap (λ (k : RecorderContents). k.latest) c.with_room.ensures.same)
+    c.take_back.ensures.time
     (c.lend-tracer.ensures.traced ∙ ap (λ (k : RecorderContents). k.traces) c.with_room.ensures.same)
     c.take_back.ensures.traced c.trace_valid-end.ensures.traced)
     (c.take_back.ensures.same ∙ (c.lend-tracer.ensures.same
@@ -83,11 +86,13 @@ pub tasks-preserved : goal.tasks-preserved
 tasks-preserved g c =
     let asked = asked_recorded c.tasks.caller.shared c.in-Ok.task c.args.settings.now.tries c.trace_valid-end.result
     c.record_call-end.result c.trace_valid-end.new.statistics c.tasks.caller.user c.trace_valid-end.new.caller.user
-    (contents g.K.Recorder.notes g.K.Recorder.traced c.tasks.keep) _
-    (contents g.K.Recorder.notes g.K.Recorder.traced c.record_call-end.new.keep)
+    (contents g.K.Recorder.notes g.K.Recorder.traced g.K.Recorder.latest c.tasks.keep) _
+    (contents g.K.Recorder.notes g.K.Recorder.traced g.K.Recorder.latest c.record_call-end.new.keep)
     (subst (λ (x : Result Task _). IfOk x (λ t. is_task t ≡ true)) c.in-Ok.ensures.task c.draw_task-drawn.ensures.range)
     (some_tries c.args.settings.now c.requires.settings) c.trace_valid-end.ensures.called
-    (traced_by _ _ _ _ _ _ _ _ _
+    (traced_by _ _ _ _ _ _ _ _ _ _ _ _ _
+    (c.lend-tracer.ensures.time ∙ ap (λ (k : RecorderContents). k.latest) c.with_room.ensures.same)
+    c.take_back.ensures.time
     (c.lend-tracer.ensures.traced ∙ ap (λ (k : RecorderContents). k.traces) c.with_room.ensures.same)
     c.take_back.ensures.traced c.trace_valid-end.ensures.traced)
     (c.take_back.ensures.same ∙ (c.lend-tracer.ensures.same
@@ -124,7 +129,8 @@ tasks-preserved g c =
       );
       kept = kept_both _ _ _ _ _ _ _ c.tasks.invariant.kept
           (of_manager (λ m. HasKeptAdded m.renewal c.tasks.caller.user.value c.trace_valid-end.new.caller.user.value
-          (contents g.K.Recorder.notes g.K.Recorder.traced c.tasks.keep)
-          (contents g.K.Recorder.notes g.K.Recorder.traced c.record_call-end.new.keep)) c.args.caller.now
+          (contents g.K.Recorder.notes g.K.Recorder.traced g.K.Recorder.latest c.tasks.keep)
+          (contents g.K.Recorder.notes g.K.Recorder.traced g.K.Recorder.latest c.record_call-end.new.keep))
+          c.args.caller.now
           c.tasks.caller c.tasks.invariant.caller i.kept);
     }

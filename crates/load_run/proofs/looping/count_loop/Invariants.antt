@@ -15,6 +15,6 @@ invariant-tasks g l = record {
   tries : l.outcomes.tries ≡ l.fn.settings.tries;
   attempts : l.fn.caller.user.value.attempt.number + l.outcomes.attempts ≡ l.caller.user.value.attempt.number;
   kept : HasKeptAdded l.fn.caller.shared.renewal l.fn.caller.user.value l.caller.user.value
-      (contents g.K.Recorder.notes g.K.Recorder.traced l.fn.keep)
-      (contents g.K.Recorder.notes g.K.Recorder.traced l.keep);
+      (contents g.K.Recorder.notes g.K.Recorder.traced g.K.Recorder.latest l.fn.keep)
+      (contents g.K.Recorder.notes g.K.Recorder.traced g.K.Recorder.latest l.keep);
 }

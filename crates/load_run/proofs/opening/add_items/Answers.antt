@@ -53,10 +53,11 @@ returns-clause-kept g c =
     kept_then y.shared.renewal _ _ _ _ _ _ c.add_item-3.result
     (kept_both y.shared.renewal _ _ _ _ _ _ c.in_ok-add_item.ensures.kept
     (of_manager (λ m. HasKeptAdded m.renewal z.user.value w.user.value
-    (contents g.K.Recorder.notes g.K.Recorder.traced c.add_item.new.keep)
-    (contents g.K.Recorder.notes g.K.Recorder.traced c.add_item-2.new.keep)) y z first
+    (contents g.K.Recorder.notes g.K.Recorder.traced g.K.Recorder.latest c.add_item.new.keep)
+    (contents g.K.Recorder.notes g.K.Recorder.traced g.K.Recorder.latest c.add_item-2.new.keep)) y z first
     c.in_ok-add_item-2.ensures.kept))
     (of_manager (λ m. IfOk c.add_item-3.result (λ _. HasKeptAdded m.renewal w.user.value
     c.add_item-3.new.caller.user.value
-    (contents g.K.Recorder.notes g.K.Recorder.traced c.add_item-2.new.keep)
-    (contents g.K.Recorder.notes g.K.Recorder.traced c.add_item-3.new.keep))) y w second c.add_item-3.ensures.kept)
+    (contents g.K.Recorder.notes g.K.Recorder.traced g.K.Recorder.latest c.add_item-2.new.keep)
+    (contents g.K.Recorder.notes g.K.Recorder.traced g.K.Recorder.latest c.add_item-3.new.keep)))
+    y w second c.add_item-3.ensures.kept)

@@ -23,8 +23,9 @@ items-preserved g c = record {
       _ _ _ tt tt c.items.invariant.asked c.in_ok-add_items.ensures.asked;
   kept = kept_both _ _ _ _ _ _ _ c.items.invariant.kept
       (of_manager (λ m. HasKeptAdded m.renewal c.items.caller.user.value c.add_items.new.caller.user.value
-      (contents g.K.Recorder.notes g.K.Recorder.traced c.items.keep)
-      (contents g.K.Recorder.notes g.K.Recorder.traced c.add_items.new.keep)) c.args.caller.now c.items.caller
+      (contents g.K.Recorder.notes g.K.Recorder.traced g.K.Recorder.latest c.items.keep)
+      (contents g.K.Recorder.notes g.K.Recorder.traced g.K.Recorder.latest c.add_items.new.keep))
+      c.args.caller.now c.items.caller
       c.items.invariant.asked.caller c.in_ok-add_items.ensures.kept);
 }
 
@@ -62,8 +63,9 @@ customers-preserved g c = record {
       c.in_ok-ask_for.ensures.answered;
   kept = kept_both _ _ _ _ _ _ _ c.customers.invariant.kept
       (of_manager (λ m. HasKeptAdded m.renewal c.customers.caller.user.value c.ask_for.new.caller.user.value
-      (contents g.K.Recorder.notes g.K.Recorder.traced c.customers.keep)
-      (contents g.K.Recorder.notes g.K.Recorder.traced c.ask_for.new.keep)) c.args.caller.now c.customers.caller
+      (contents g.K.Recorder.notes g.K.Recorder.traced g.K.Recorder.latest c.customers.keep)
+      (contents g.K.Recorder.notes g.K.Recorder.traced g.K.Recorder.latest c.ask_for.new.keep))
+      c.args.caller.now c.customers.caller
       c.customers.invariant.caller c.in_ok-ask_for.ensures.answered.kept);
   ready = inr (of_manager (λ m. IsAnswered m c.ask_for.new.caller.user.value) c.args.caller.now c.customers.caller
       c.customers.invariant.caller c.in_ok-ask_for.ensures.answered.ready);

@@ -13,8 +13,8 @@ abbrev pub invariant-items : goal.invariant-items
 invariant-items g l = record {
   asked : RanOrStopped g.D.Draws.leads (for_each l.place stocks) (Ok tt) l.fn.caller l.caller l.fn.draws l.draws;
   kept : HasKeptAdded l.fn.caller.shared.renewal l.fn.caller.user.value l.caller.user.value
-      (contents g.K.Recorder.notes g.K.Recorder.traced l.fn.keep)
-      (contents g.K.Recorder.notes g.K.Recorder.traced l.keep);
+      (contents g.K.Recorder.notes g.K.Recorder.traced g.K.Recorder.latest l.fn.keep)
+      (contents g.K.Recorder.notes g.K.Recorder.traced g.K.Recorder.latest l.keep);
 }
 
 abbrev pub invariant-customers : goal.invariant-customers
@@ -24,7 +24,7 @@ invariant-customers g l = record {
   opening : Opening g.D.Draws.leads l.fn.caller.shared.renewal l.fn.settings.items l.place l.fn.caller.user.value
       l.caller.user.value l.fn.draws l.draws;
   kept : HasKeptAdded l.fn.caller.shared.renewal l.fn.caller.user.value l.caller.user.value
-      (contents g.K.Recorder.notes g.K.Recorder.traced l.fn.keep)
-      (contents g.K.Recorder.notes g.K.Recorder.traced l.keep);
+      (contents g.K.Recorder.notes g.K.Recorder.traced g.K.Recorder.latest l.fn.keep)
+      (contents g.K.Recorder.notes g.K.Recorder.traced g.K.Recorder.latest l.keep);
   ready : (l.place ≡ 0) ⊎ IsAnswered l.fn.caller.shared l.caller.user.value;
 }

@@ -9,7 +9,8 @@ use Rattle.load_run.proofs.workers.join_all.Given as goal
 abbrev pub invariant-loop-handle : goal.invariant-loop-handle
 invariant-loop-handle g l = record {
   all : l.fn.handles.items ≡ l.yielded ++ into_iter_items l.handle-iterator;
-  joined : Paired (λ h r. DidWork g.D.Draws.leads (shown (contents g.K.Recorder.notes g.K.Recorder.traced))
+  joined : Paired (λ h r. DidWork g.D.Draws.leads
+      (shown (contents g.K.Recorder.notes g.K.Recorder.traced g.K.Recorder.latest))
       h.promise.settings h.promise.worker.value
       r)
       l.yielded

@@ -26,7 +26,7 @@ rounds-init g c =
       first = refl;
       round = c.in_ok-round.ensures.round;
       ran = λ y h. subst (λ (n : ℕ). RoundHasRun g.D.Draws.leads
-          (shown (contents g.K.Recorder.notes g.K.Recorder.traced)) s n y c.args.self.slots.items
+          (shown (contents g.K.Recorder.notes g.K.Recorder.traced g.K.Recorder.latest)) s n y c.args.self.slots.items
           c.in_ok-round.round) one h;
     }
 
@@ -81,7 +81,8 @@ rounds-preserved g c =
         tries = ap (λ (x : TaskCountsShown). x.tries) c.plus.ensures ∙ i.round.tries;
         alone = more.round.alone;
       };
-      ran = λ y h. ran_more g.D.Draws.leads (shown (contents g.K.Recorder.notes g.K.Recorder.traced))
+      ran = λ y h. ran_more g.D.Draws.leads
+          (shown (contents g.K.Recorder.notes g.K.Recorder.traced g.K.Recorder.latest))
           c.args.self.plan.settings c.rounds.done y
           (caller_of c.in_ok-manager-2.manager c.in_ok-manager-2.client)
           c.args.self.slots.items c.rounds.round c.in_ok-more.more c.plus.result
@@ -101,7 +102,7 @@ recorders_of-clients-requires g c =
 pub returns-clause-kept : goal.returns-clause-kept
 returns-clause-kept g c =
     let s = c.args.self.plan.settings in
-    let notes = contents g.K.Recorder.notes g.K.Recorder.traced in
+    let notes = contents g.K.Recorder.notes g.K.Recorder.traced g.K.Recorder.latest in
     let most = few s c.args.self.plan.in_range in
     let n : length c.args.self.slots.items ≡ s.clients = sym c.args.self.slots.ok.0 ∙ c.args.self.number in
     let opened = caller_of c.in_ok-manager.manager c.in_ok-manager.client in

@@ -12,11 +12,13 @@ invariant-rounds g l = record {
   first : l.round.manager.first ≡ l.initial.round.manager.first;
   round : IsRound l.fn.self.plan.settings l.round;
   ran : (y : CallerShown) →
-      RoundHasRun g.D.Draws.leads (shown (contents g.K.Recorder.notes g.K.Recorder.traced)) l.fn.self.plan.settings
+      RoundHasRun g.D.Draws.leads (shown (contents g.K.Recorder.notes g.K.Recorder.traced g.K.Recorder.latest))
+      l.fn.self.plan.settings
       l.fn.self.plan.settings.tasks y
       l.fn.self.slots.items
       l.initial.round →
-      RoundHasRun g.D.Draws.leads (shown (contents g.K.Recorder.notes g.K.Recorder.traced)) l.fn.self.plan.settings
+      RoundHasRun g.D.Draws.leads (shown (contents g.K.Recorder.notes g.K.Recorder.traced g.K.Recorder.latest))
+      l.fn.self.plan.settings
       (l.done * l.fn.self.plan.settings.tasks) y
       l.fn.self.slots.items l.round;
 }

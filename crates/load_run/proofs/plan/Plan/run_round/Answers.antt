@@ -21,7 +21,8 @@ gather_all-client-requires g c =
     let count : length c.args.slots.items ≡ c.args.self.settings.clients =
     sym c.args.slots.ok.0 ∙ c.requires.number in
     record {
-      can = can_gather g.D.Draws.leads (shown (contents g.K.Recorder.notes g.K.Recorder.traced)) c.args.self.settings
+      can = can_gather g.D.Draws.leads (shown (contents g.K.Recorder.notes g.K.Recorder.traced g.K.Recorder.latest))
+          c.args.self.settings
           c.caller-caller.result
           c.args.slots.items
           _ _
@@ -46,7 +47,8 @@ returns-clause-round g c =
         alone = c.gather_all-client.ensures.alone;
         era = subst (λ (y : CallerShown). IsInRenewal y.shared.renewal c.gather_all-client.result.0.value.records)
             opened
-            (ran_in g.D.Draws.leads (shown (contents g.K.Recorder.notes g.K.Recorder.traced)) c.args.self.settings
+            (ran_in g.D.Draws.leads (shown (contents g.K.Recorder.notes g.K.Recorder.traced g.K.Recorder.latest))
+            c.args.self.settings
             c.caller-caller.result _ _ _
             c.gather_all-client.result.0.value _ ready c.in_ok-crew.ensures.crew c.in_ok-crew-2.ensures.1.0
             c.gather_all-client.ensures.gathered
@@ -60,11 +62,13 @@ returns-clause-ran g c =
     let opened = c.caller-caller.ensures in
     let ready = subst (λ (y : CallerShown). IsReadyForRound c.args.self.settings y) (sym opened) c.requires.ready in
     subst (λ (y : CallerShown). RanAll g.D.Draws.leads c.args.self.settings
-    (shown (contents g.K.Recorder.notes g.K.Recorder.traced)) c.args.self.settings.tasks y.shared.renewal
+    (shown (contents g.K.Recorder.notes g.K.Recorder.traced g.K.Recorder.latest))
+    c.args.self.settings.tasks y.shared.renewal
     y.shared.renewal y.user.value.records c.args.slots.items
     c.gather_all-client.result.0.value.records c.gather_all-client.result.1.items c.gather_all-client.result.2.outcomes
     c.gather_all-client.result.2.attempts (all_aborted y.user.value) (all_aborted c.gather_all-client.result.0.value))
-    opened (ran_all g.D.Draws.leads (shown (contents g.K.Recorder.notes g.K.Recorder.traced)) c.args.self.settings
+    opened (ran_all g.D.Draws.leads (shown (contents g.K.Recorder.notes g.K.Recorder.traced g.K.Recorder.latest))
+    c.args.self.settings
     c.caller-caller.result _ _ _ _
     c.gather_all-client.result.0.value _ _ ready c.in_ok-crew.ensures.crew c.in_ok-crew-2.ensures.1.0
     c.gather_all-client.ensures.gathered c.gather_all-client.ensures.slots c.gather_all-client.ensures.attempts
