@@ -16,7 +16,7 @@ use Rattle.vac_manager.specs.declared.note.CompletedCall.{CompletedCall}
 use Rattle.vac_manager.specs.declared.note.TracedAttempt.{TracedAttempt}
 use Rattle.vac_manager.specs.Legal.{AreVersioned}
 use Rattle.vac_manager.specs.Tracing.{trace_of, IsTraceOf}
-use Rattle.load_record.specs.Order.{rank_of}
+use Rattle.stm_object.specs.Places.{rank_of}
 use Rattle.load_record.specs.Laying.{IsLaidFirst}
 use Rattle.load_record.specs.Legal.{AreCallsOf}
 use Rattle.load_record.specs.Lines.{AttemptEntry}

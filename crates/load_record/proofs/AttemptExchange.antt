@@ -15,7 +15,7 @@ use Rattle.vac_lines.proofs.Spacing.{Each}
 use Rattle.vac_manager.specs.declared.note.TracedAttempt.{TracedAttempt}
 use Rattle.vac_manager.specs.Legal.{AreNoRivals, HaveOneWriter, AreVersioned}
 use Rattle.vac_manager.specs.Tracing.{trace_of, IsTraceOf}
-use Rattle.load_record.specs.Order.{rank_of}
+use Rattle.stm_object.specs.Places.{rank_of}
 use Rattle.load_record.proofs.Exchange.{in_more, in_midst, in_split}
 use Rattle.load_record.specs.Lines.{AttemptEntry}
 use Rattle.load_record.specs.AttemptOrder.{compare, EntriesAreOrdered}

@@ -21,7 +21,8 @@ use Rattle.vac_manager.specs.declared.note.CompletedCall.{CompletedCall}
 use Rattle.vac_manager.specs.Placed.{CommitPosition}
 use Rattle.vac_manager.specs.Keeping.{IsNoted}
 use Rattle.judge_calls.specs.Laws.{GiveReplies, state_after}
-use Rattle.load_record.specs.Order.{Entry, rank_of, precedes, AreOrdered}
+use Rattle.stm_object.specs.Places.{rank_of}
+use Rattle.load_record.specs.Order.{Entry, precedes, AreOrdered}
 use Rattle.load_record.specs.History.{call_of_entry}
 use Rattle.load_record.specs.Legal.{AreCallsOf}
 

@@ -10,7 +10,7 @@ use Rattle.vac_lines.proofs.Spacing.{Each, each_both}
 use Rattle.stm_object.specs.declared.place.CommitPosition.{CommitPosition}
 use Rattle.vac_manager.specs.declared.note.TracedAttempt.{TracedAttempt}
 use Rattle.judge_object.specs.Laws.{IsAt, TakeTurns}
-use Rattle.load_record.specs.Order.{rank_of}
+use Rattle.stm_object.specs.Places.{rank_of}
 use Rattle.load_record.specs.Laying.{IsLaidFirst}
 use Rattle.load_record.specs.Lines.{AttemptEntry}
 use Rattle.load_record.specs.AttemptOrder.{compare, EntriesAreOrdered}

@@ -2,7 +2,8 @@
 use Rattle.std.proofs.Common.{◌≡◌, ◌&&◌, ◌||◌, arith, Bool, true, false, eqb, ltb, ℕ}
 use Rattle.std.proofs.lemmas.Bool.Decides.{nat_tests}
 use Rattle.vac_manager.specs.declared.note.CompletedCall.{CompletedCall}
-use Rattle.load_record.specs.Order.{precedes, rank_of}
+use Rattle.stm_object.specs.Places.{rank_of}
+use Rattle.load_record.specs.Order.{precedes}
 
 -- by the first numbers, then by the second ones, then by the third ones
 abbrev below : ℕ → ℕ → ℕ → ℕ → ℕ → ℕ → Bool

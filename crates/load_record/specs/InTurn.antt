@@ -6,7 +6,7 @@ use Rattle.tx_alloc.specs.Pool.{heap_words}
 use Rattle.vac_model.specs.declared.limits.TheConstants.{MOST_BLOCKS}
 use Rattle.vac_manager.specs.Placed.{CommitPosition}
 use Rattle.vac_manager.specs.declared.note.TracedAttempt.{TracedAttempt}
-use Rattle.load_record.specs.Order.{rank_of}
+use Rattle.stm_object.specs.Places.{rank_of}
 use Rattle.load_record.specs.Lines.{AttemptEntry}
 use Rattle.load_record.specs.Entries.{AllFit}
 use Rattle.load_record.specs.Judged.{JudgedByPrecedence}
@@ -42,10 +42,16 @@ pub record MadeInTurn (page : Page) : Type 0 where
 abbrev pub EachMadeInTurn : List Page → Type 0
 EachMadeInTurn pages = (page : Page) → In page pages → MadeInTurn page
 
+-- the judge calls the text of a load's attempts opaque, at as many words as the heap has, if and
+-- only if no attempt comes before an attempt that had ended before it began
+abbrev pub LoadJudgedByPrecedence : ℕ → List AttemptEntry → Type 0
+LoadJudgedByPrecedence blocks all = JudgedByPrecedence (heap_words blocks) all
+
 -- if the completed calls of a load made a history, each aborted attempt reads the image of its
 -- version in this history, each client made its attempts one after the other, and the judge can
 -- read the attempts at the words of the heap, then their text is judged by precedence alone
--- Not said: that the clients of a load made their attempts so; no contract of a load says it.
+-- Not said: that the clients of a load made their attempts so. The program's contract says it of
+-- the loads that it writes.
 -- Not said: that the order keeps precedence. The clock readings of two clients do not show which
 -- of them read first.
 abbrev pub LoadsAreJudgedByPrecedence : Type 0
@@ -53,4 +59,4 @@ LoadsAreJudgedByPrecedence = (blocks : ℕ) (pages : List Page) (all : List Atte
     blocks ≤ MOST_BLOCKS → AreAttempts blocks pages all → AllFit (heap_words blocks) all →
     (made : MadeHistory blocks (calls_on pages)) →
     AbortedReadAtTheirPlaces made.image made.history pages → EachMadeInTurn pages →
-    JudgedByPrecedence (heap_words blocks) all
+    LoadJudgedByPrecedence blocks all

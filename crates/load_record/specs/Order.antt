@@ -1,8 +1,8 @@
 -- The order in which the calls of all clients are written.
-use Rattle.std.specs.Prelude.{◌≡◌, ℕ, suc, ◌+◌, ◌*◌, ◌||◌, ◌&&◌, Bool, false, cond, eqb, ltb}
+use Rattle.std.specs.Prelude.{◌≡◌, ℕ, suc, ◌||◌, ◌&&◌, Bool, false, eqb, ltb}
 use Rattle.std.specs.Prelude.{List, [], ◌∷◌, map, slice_index_or, slice_set}
 use Rattle.std.specs.List.{AllPairs}
-use Rattle.vac_manager.specs.Placed.{CommitPosition}
+use Rattle.stm_object.specs.Places.{rank_of}
 use Rattle.vac_manager.specs.declared.note.CompletedCall.{CompletedCall}
 
 -- a recorded call, with the number of its client
@@ -36,10 +36,6 @@ abbrev pub Interleaves : {X : Type 0} → List (List X) → List X → Type 0
 Interleaves lists [] = (place : ℕ) → list_at lists place ≡ []
 Interleaves {X} lists (x ∷ all) =
     (others : List (List X)) × TakesFirst x lists others × Interleaves others all
-
--- the rank of a record within its renewal: by version, the writer of a version before its readers
-abbrev pub rank_of : CommitPosition → ℕ
-rank_of place = 2 * place.version + cond place.wrote 0 1
 
 -- a is written before b: by renewal, then by version with the writer of a version before its
 -- readers, then by the begin of the calls

@@ -108,6 +108,8 @@ impl<W: StampClock> Recorder for CallRecorder<W> {
 
     ghost traced = { λ _. None };
 
+    ghost latest = { λ _. 0 };
+
     ghost ready = { λ journal. vec_len journal.notes < vec_capacity journal.notes };
 
     type Tracing = Untraced;

@@ -70,6 +70,8 @@ impl<W: StampClock + Copy + Drop> Recorder for AttemptRecorder<W> {
 
     ghost traced = { λ ledger. ended_by ledger.trail };
 
+    ghost latest = { λ ledger. ledger.trail.latest };
+
     ghost ready = { λ ledger. vec_len ledger.journal.notes < vec_capacity ledger.journal.notes };
 
     fn begin(&mut self) -> Result<(), AllocError> {

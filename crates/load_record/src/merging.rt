@@ -1,7 +1,8 @@
 //! The remaining calls of each client, and the call that is written next.
 
 ghost use Rattle.std.specs.Prelude.{◌≡◌, ◌+◌, length, List, IfSome, IfNone};
-ghost use Rattle.load_record.specs.Order.{Entry, entries_of, list_at, precedes, rank_of};
+ghost use Rattle.stm_object.specs.Places.{rank_of};
+ghost use Rattle.load_record.specs.Order.{Entry, entries_of, list_at, precedes};
 ghost use Rattle.load_record.specs.Picking.{Picks, IsEmpty};
 ghost use Rattle.load_record.specs.Rests.{left_of, picked_entry, IsBest};
 

@@ -1,6 +1,6 @@
 //! The tracer of the attempts of a client's calls.
 
-ghost use Rattle.std.specs.Prelude.{◌≡◌, true};
+ghost use Rattle.std.specs.Prelude.{◌≡◌, ◌≤◌, true};
 ghost use Rattle.load_record.specs.Noted.{none_committed, has_committed};
 
 use crate::accesses::Accesses;
@@ -79,6 +79,7 @@ impl<W: StampClock> AttemptTracer<W> {
         ensures taken { self.new.committed ≡ None }
         ensures given_up { self.new.given_up.items ≡ self.old.given_up.items }
         ensures whole { self.new.is_whole ≡ self.old.is_whole }
+        ensures time { self.new.latest ≡ self.old.latest }
     {
         let note = self.committed.take()?;
         if !self.is_whole {
@@ -93,6 +94,8 @@ impl<W: StampClock> AttemptTracer<W> {
           commits = commits;
           place = place;
           accesses = self.old.accesses.items.items;
+          begin = self.old.latest;
+          end = self.new.latest;
         }) }
         ensures all { IfOk result (λ _. self.old.accesses.is_whole ≡ true) }
         ensures accesses { self.new.accesses ≡ self.old.accesses }
@@ -100,6 +103,7 @@ impl<W: StampClock> AttemptTracer<W> {
         ensures committed { self.new.committed ≡ self.old.committed }
         ensures whole { self.new.is_whole ≡ self.old.is_whole }
         ensures stamped { IfOk result (λ a. IsStamped W.shows self.old self.new a) }
+        ensures time { self.old.latest ≤ self.new.latest }
     {
         let begin = self.latest;
         let end = stamp(&mut self.watch, begin);
@@ -134,7 +138,7 @@ impl<W: StampClock + Copy> AttemptTracer<W> {
 }
 
 impl<W: StampClock> Tracer for AttemptTracer<W> {
-    ghost use Rattle.std.specs.Prelude.{◌≡◌, ◌∷◌, ◌++◌, [], false, None, Some, IfSome};
+    ghost use Rattle.std.specs.Prelude.{◌≡◌, ◌≤◌, ◌∷◌, ◌++◌, [], false, None, Some, IfSome};
     ghost use Rattle.vac_manager.specs.declared.note.TracedAttempt.{TracedAttempt};
     ghost use Rattle.vac_manager.specs.Tracing.{HasNoAccess, HasTracedCommit, HasTracedAbort};
     ghost use Rattle.load_record.specs.Stamps.{IsStamp};
@@ -156,6 +160,8 @@ impl<W: StampClock> Tracer for AttemptTracer<W> {
     ghost accesses = { λ t. known t.accesses.is_whole t.accesses.items.items };
 
     ghost position = { λ t. Some t.place };
+
+    ghost latest = { λ t. t.latest };
 
     /// Reads the clock once.
     ///
@@ -180,6 +186,7 @@ impl<W: StampClock> Tracer for AttemptTracer<W> {
           version = version;
           wrote = false;
         } }
+        ensures time { self.new.latest ≡ self.old.latest }
     {
         self.place = CommitPosition {
             renewal,
@@ -219,9 +226,10 @@ impl<W: StampClock> Tracer for AttemptTracer<W> {
     fn commit(&mut self, place: &CommitPosition)
         ensures ended { HasTracedCommit place.now
             (known self.old.accesses.is_whole self.old.accesses.items.items)
-            (ended_by self.old) (ended_by self.new) }
+            self.old.latest self.new.latest (ended_by self.old) (ended_by self.new) }
         ensures stamped { self.old.committed ≡ None →
             IfSome self.new.committed (λ a. IsStamped W.shows self.old self.new a) }
+        ensures time { self.old.latest ≤ self.new.latest }
     {
         match self.end(true, *place) {
             Ok(note) if self.committed.is_none() => self.committed = Some(note),
@@ -236,13 +244,14 @@ impl<W: StampClock> Tracer for AttemptTracer<W> {
     fn give_up(&mut self, _stop: &Stop)
         ensures ended { HasTracedAbort (Some self.old.place)
             (known self.old.accesses.is_whole self.old.accesses.items.items)
-            (ended_by self.old) (ended_by self.new) }
+            self.old.latest self.new.latest (ended_by self.old) (ended_by self.new) }
         ensures stamped { (a : TracedAttempt) →
             self.new.given_up.items ≡ self.old.given_up.items ++ (a ∷ []) →
             IsStamped W.shows self.old self.new a }
         ensures placed { (a : TracedAttempt) →
             self.new.given_up.items ≡ self.old.given_up.items ++ (a ∷ []) →
             a.place ≡ self.old.place }
+        ensures time { self.old.latest ≤ self.new.latest }
     {
         let Ok(note) = self.end(false, self.place) else {
             self.is_whole = false;

@@ -8,7 +8,7 @@ ghost use Rattle.vac_lines.specs.Writing.{AppendsPrefix};
 ghost use Rattle.vac_model.specs.Ranges.{is_block_count};
 ghost use Rattle.vac_lines.specs.declared.stream_fault.StreamFault.TheVariants.{Memory, Write};
 ghost use Rattle.vac_lines.specs.Sent.{Sent};
-ghost use Rattle.load_record.specs.Order.{rank_of};
+ghost use Rattle.stm_object.specs.Places.{rank_of};
 ghost use Rattle.load_record.specs.Laying.{Lays};
 ghost use Rattle.load_record.specs.Known.{is_whole_ledger, are_whole_ledgers};
 ghost use Rattle.load_record.specs.Lines.{line_entry, line_text, lines_text};

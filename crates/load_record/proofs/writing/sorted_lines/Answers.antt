@@ -1,6 +1,6 @@
 use Rattle.std.proofs.Common.{◌≡◌, map, rules, ℕ}
 use Rattle.std.proofs.lemmas.List.Sorted.{answers_always}
-use Rattle.load_record.specs.Order.{rank_of}
+use Rattle.stm_object.specs.Places.{rank_of}
 use Rattle.load_record.specs.declared.lines.Line.{Line}
 use Rattle.load_record.specs.Lines.{line_entry}
 use Rattle.load_record.specs.Pages.{pages_of, attempt_entries_of}
