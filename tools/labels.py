@@ -20,7 +20,7 @@ STALE = [
     ("stm_core", "clause of Version::free"),
     ("stm_core", "clause `free` of Version::new"),
     ("ex_bank", "clause `told` of Move::run: its trait has no such clause"),
-    ("tx_memory", "clause `heard` of Observed: it has no such ghost field"),
+    ("load_record", "clause `heard` of Observed: it has no such ghost field"),
     ("cli_main", "row test_cli: writes_that_fail"),
     ("cli_main", "row test_cli: flushes_that_fail: two tests have this name"),
     ("cli_main", "row test_cli: work::flushes_that_fail: it stands in two other modules"),

@@ -14,6 +14,7 @@ pub mod AttemptTexts
 pub mod Sorted
 pub mod First
 pub mod Ended
+pub mod Tracking
 pub mod Reading
 pub mod Judging
 pub mod FewAccesses

@@ -10,6 +10,7 @@ pub mod Sending
 pub mod Legal
 pub mod Noted
 pub mod Known
+pub mod Observed
 pub mod StampedAttempts
 pub mod Lines
 pub mod AttemptOrder

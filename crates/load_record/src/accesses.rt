@@ -3,7 +3,7 @@
 ghost use Rattle.std.specs.Prelude.{◌≡◌, [], true, IfOk};
 
 use std::alloc::{AllocError, Global};
-use tx_memory::{Access, Observer};
+use tx_memory::Access;
 
 /// The accesses of a running attempt, as far as there was room for them.
 #[derive(Drop)]
@@ -14,19 +14,10 @@ pub(crate) struct Accesses {
     is_whole: bool,
 }
 
-impl Observer for Accesses {
-    ghost use Rattle.load_record.specs.Known.{known};
-
-    ghost seen = { λ a. known a.is_whole a.items.items };
-
-    fn see(&mut self, access: Access) {
-        if self.items.push(access).is_err() {
-            self.is_whole = false;
-        }
-    }
-}
-
 impl Accesses {
+    ghost use Rattle.load_record.specs.Known.{known};
+    ghost use Rattle.load_record.specs.Observed.{HasSeen};
+
     /// Returns an empty list of accesses.
     pub(crate) fn new(alloc: Global) -> Accesses
         ensures none { result.items.items ≡ [] }
@@ -36,6 +27,18 @@ impl Accesses {
             alloc,
             items: Vec::new(alloc),
             is_whole: true,
+        }
+    }
+
+    /// Records one more access.
+    ///
+    /// Not said: when there is no room.
+    pub(crate) fn see(&mut self, access: Access)
+        ensures { HasSeen access (known self.old.is_whole self.old.items.items)
+            (known self.new.is_whole self.new.items.items) }
+    {
+        if self.items.push(access).is_err() {
+            self.is_whole = false;
         }
     }
 

@@ -12,6 +12,7 @@ mod laying;
 mod ledger;
 mod lines;
 mod merging;
+mod observed;
 mod opacity_laws;
 mod places;
 mod trail;

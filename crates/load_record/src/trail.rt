@@ -4,13 +4,14 @@ ghost use Rattle.std.specs.Prelude.{◌≡◌, ◌≤◌, true};
 ghost use Rattle.load_record.specs.Noted.{none_committed, has_committed};
 
 use crate::accesses::Accesses;
+use crate::observed::Observed;
 use crate::places::first_place;
 use crate::{StampClock, stamp};
 use std::alloc::{AllocError, Global};
 use std::mem;
 use stm_attempt::Stop;
 use stm_core::Version;
-use tx_memory::{Observed, TxMem, TxRead};
+use tx_memory::{TxMem, TxRead};
 use vac_manager::{Body, CommitPosition, Object, TracedAttempt, Tracer};
 
 /// A tracer of the attempts of a client's calls, which reads a clock before and after each

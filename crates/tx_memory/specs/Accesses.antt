@@ -1,19 +1,10 @@
 -- The reads and writes of a memory, from its accesses.
-use Rattle.std.specs.Prelude.{◌≡◌, ℕ, Bool, true, ◌&&◌, eqb, List, [], ◌∷◌, ◌++◌}
+use Rattle.std.specs.Prelude.{◌≡◌, ℕ, Bool, true, ◌&&◌, eqb, List, [], ◌∷◌}
 use Rattle.std.specs.Prelude.{Option, Some, None, is_none, if◌then◌else◌}
 use Rattle.std.specs.FinMap.{get, insert, empty}
-use Rattle.std.specs.FinMap as finite
-use Rattle.std.specs.Coded.{Coded-set, coded_ℕ, coded_bool}
-use mathlib.Core.HLevel.{Π_prop, ×₃_prop}
 use Rattle.tx_memory.specs.View.{Words}
 use Rattle.tx_memory.specs.declared.access.Access.{Access}
 use Rattle.tx_memory.specs.declared.access.Access.TheVariants.{Read, Write}
-
--- one more access was recorded, after the others; or there was no room for it, or for an earlier
--- one
-abbrev pub HasSeen : Access → Option (List Access) → Option (List Access) → Type 0
-HasSeen access before after = (all : List Access) → after ≡ Some all →
-    (earlier : List Access) × (before ≡ Some earlier) × (all ≡ earlier ++ (access ∷ []))
 
 -- the reads with one more of this value at this address, unless the word was written before
 abbrev pub reads_with : Words → Words → ℕ → ℕ → Words
@@ -67,10 +58,3 @@ AreOf accesses reads writes =
 abbrev pub IsTracked : Option (List Access) → Words → Words → Type 0
 IsTracked seen reads writes =
     (accesses : List Access) → seen ≡ Some accesses → AreOf accesses reads writes
-
--- there is at most one proof of `IsTracked`
-pub IsTracked-prop : (seen : Option (List Access)) (reads writes : Words) →
-    IsProp (IsTracked seen reads writes)
-IsTracked-prop seen reads writes =
-    Π_prop (λ accesses. Π_prop (λ e. ×₃_prop (Coded-set (finite.code coded_ℕ coded_ℕ) _ _)
-    (Coded-set (finite.code coded_ℕ coded_ℕ) _ _) (Coded-set coded_bool _ _)))

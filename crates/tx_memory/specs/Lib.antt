@@ -6,4 +6,3 @@ pub mod PlainSeen
 pub mod Pairs
 pub mod Paired
 pub mod Accesses
-pub mod Origin

@@ -1,4 +1,4 @@
--- One more access of a memory whose accesses are observed.
+-- One more access of a memory whose accesses are recorded.
 use Rattle.std.proofs.Common.{◌≡◌, ℕ, Bool, true, false, ◌&&◌, eqb, List, [], ◌∷◌, ◌++◌, Option, Some, None, refl, sym}
 use Rattle.std.proofs.Common.{ap, subst, ◌∙◌, arith}
 use Rattle.std.proofs.lemmas.Bool.Decides.{nat_tests}
@@ -7,9 +7,9 @@ use Rattle.tx_memory.specs.View.{Words, View, HasRead}
 use Rattle.tx_memory.specs.declared.memory.Addr.{Addr}
 use Rattle.tx_memory.specs.declared.access.Access.{Access}
 use Rattle.tx_memory.specs.declared.access.Access.TheVariants.{Read, Write}
-use Rattle.tx_memory.specs.Accesses.{HasSeen, reads_with, reads_behind, writes_behind, is_right_read, are_right}
-use Rattle.tx_memory.specs.Accesses.{AreOf}
-use Rattle.tx_memory.specs.Accesses.{IsTracked}
+use Rattle.tx_memory.specs.Accesses.{reads_with, reads_behind, writes_behind, is_right_read, are_right}
+use Rattle.tx_memory.specs.Accesses.{AreOf, IsTracked}
+use Rattle.load_record.specs.Observed.{HasSeen}
 
 reads_read : (r w : Words) (xs : List Access) (a : Addr) (v : ℕ) →
     reads_behind r w (xs ++ (Read a v ∷ [])) ≡ reads_with (reads_behind r w xs) (writes_behind w xs) a.0 v

@@ -1,0 +1,13 @@
+use Rattle.load_record.specs.Known.{known}
+use Rattle.load_record.proofs.Tracking.{tracked_write}
+use Rattle.load_record.proofs.observed.ObservedTxMem.write.Goals as goal
+
+pub invariant_of-self-2 : goal.invariant_of-self-2
+invariant_of-self-2 g c =
+    let before = c.args.self.now.accesses.now in
+    let after = c.see.new.self in
+    record {
+      tracked = tracked_write (g.M.TxRead.view c.args.self.now.memory.now) (g.M.TxRead.view c.write.new.self)
+          c.args.addr c.args.value (known before.is_whole before.items.items) (known after.is_whole after.items.items)
+          c.args.self.now.tracked c.write.ensures.reads c.in_ok-write.ensures.answer c.see.ensures;
+    }
