@@ -71,9 +71,9 @@ pub record HasSearched (s : State) (lines : List (Line Task)) (steps : ℕ) : Ty
   pub run : HasRun reserving steps (start s (calls_of sorted))
 
 -- a finding is a linearization
-abbrev pub IsOrder : {W : Type 0} → Finding W → Type 0
+abbrev pub IsOrder : {P : Type 0} → Finding P → Type 0
 IsOrder (finding.Order places) = ⊤
-IsOrder (finding.NoOrder most world) = ⊥
+IsOrder (finding.NoOrder most point) = ⊥
 IsOrder (finding.Unknown most) = ⊥
 
 -- a linearization is found

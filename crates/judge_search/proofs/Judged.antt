@@ -72,9 +72,9 @@ module _ {S O R : Type 0} (X : Rules S O R) where
         distinct = h.distinct;
         within = subst (λ k. All (λ p. p < k) places.items) (sym (length_calls X calls.lines.items)) h.within;
       }
-  judges calls point s steps w e f g (finding.NoOrder most world) h =
+  judges calls point s steps w e f g (finding.NoOrder most there) h =
       let cs = calls_of calls.lines.items in
-      let at = point_at X calls world in
+      let at = point_at X calls there in
       let deepest = subst (λ x. Deepest X x most at) (at_start calls point s e f g) h.0 in
       let bound = subst (λ (x : Configuration S O). PlacesAtMost X (answered x.rest) most x)
       (at_start calls point s e f g) h.1 in
@@ -94,14 +94,14 @@ module _ {S O R : Type 0} (X : Rules S O R) where
   }
 
   -- what is found in so many steps, said of all that were given
-  pub found_in : {W : Type 0} (at : W → Configuration S O) (s : S) (calls : List (Call O)) (steps : ℕ)
-      (found : Found W) → IsFoundIn X at s calls steps found → IsFoundOfCalls X at s calls steps found.finding
+  pub found_in : {P : Type 0} (at : P → Configuration S O) (s : S) (calls : List (Call O)) (steps : ℕ)
+      (found : Found P) → IsFoundIn X at s calls steps found → IsFoundOfCalls X at s calls steps found.finding
   found_in at s calls steps found h = go found.finding h.finds h.spent
     where
       go : (f : Finding _) → IsFoundOfCalls X at s calls found.steps f → (IsUnknown f → found.steps ≡ steps) →
           IsFoundOfCalls X at s calls steps f
       go (finding.Order places) finds spent = finds
-      go (finding.NoOrder most world) finds spent = finds
+      go (finding.NoOrder most point) finds spent = finds
       go (finding.Unknown most) finds spent =
           subst (λ n. IsUndecided X (start s calls) n most) (spent tt) finds
 

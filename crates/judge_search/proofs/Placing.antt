@@ -80,22 +80,22 @@ any_more places place p =
     list_any-append (λ o. o == p) places (place ∷ [])
     ∙ ap (λ b. list_any (λ o. o == p) places || b) (or_false (place == p) ∙ swap place p)
 
-module _ {W S O : Type 0} where
+module _ {P S O : Type 0} where
   -- no call has a place besides those that had one
-  pub made_none : (views : Views W S O) (world : W) → AreMade views (views.made world) [] world
-  made_none views world = record {
-    made = λ p. sym (or_false (views.made world p));
+  pub made_none : (views : Views P S O) (point : P) → AreMade views (views.made point) [] point
+  made_none views point = record {
+    made = λ p. sym (or_false (views.made point p));
     distinct = distinct_none;
     within = All-nil (λ p. p < views.count);
   }
 
   -- one call more
-  pub made_one : (views : Views W S O) (first : ℕ → Bool) (places : List ℕ) (world next : W) (place : ℕ) →
-      AreMade views first places world
-      → views.made world place ≡ false → place < views.count →
-      ((p : ℕ) → views.made next p ≡ (views.made world p || p == place)) →
+  pub made_one : (views : Views P S O) (first : ℕ → Bool) (places : List ℕ) (point next : P) (place : ℕ) →
+      AreMade views first places point
+      → views.made point place ≡ false → place < views.count →
+      ((p : ℕ) → views.made next p ≡ (views.made point p || p == place)) →
       AreMade views first (places ++ place ∷ []) next
-  made_one views first places world next place h left within more = record {
+  made_one views first places point next place h left within more = record {
     made = λ p.
         more p ∙ ap (λ b. b || p == place) (h.made p) ∙ or_assoc (first p) (list_any (λ o. o == p) places) (p == place)
         ∙ ap (λ b. first p || b) (sym (any_more places place p));
@@ -106,34 +106,34 @@ module _ {W S O : Type 0} where
   }
 
   -- the places along a path
-  pub made_all : (views : Views W S O) (first : ℕ → Bool) (places : List ℕ) (path : List (Frame W)) (world : W)
-      → AreMadeBy views first places path world → AreMade views first (places ++ places_of path) world
-  made_all views first places [] world h = subst (λ ps. AreMade views first ps world) (sym (none places)) h
+  pub made_all : (views : Views P S O) (first : ℕ → Bool) (places : List ℕ) (path : List (Frame P)) (point : P)
+      → AreMadeBy views first places path point → AreMade views first (places ++ places_of path) point
+  made_all views first places [] point h = subst (λ ps. AreMade views first ps point) (sym (none places)) h
     where
       none : (l : List ℕ) → l ++ [] ≡ l
       none [] = refl
       none (x ∷ xs) = ap (λ l. x ∷ l) (none xs)
-  made_all views first places (f ∷ path) world h =
-      subst (λ ps. AreMade views first ps world) (append_assoc places (f.place ∷ []) (places_of path))
-      (made_all views first (places ++ f.place ∷ []) path world h.1)
+  made_all views first places (f ∷ path) point h =
+      subst (λ ps. AreMade views first ps point) (append_assoc places (f.place ∷ []) (places_of path))
+      (made_all views first (places ++ f.place ∷ []) path point h.1)
 
   -- a place more, and a place less
-  pub made_push : (views : Views W S O) (first : ℕ → Bool) (places : List ℕ) (path : List (Frame W))
-      (frame : Frame W) (next : W)
-      → AreMadeBy views first places path frame.world → views.made frame.world frame.place ≡ false →
+  pub made_push : (views : Views P S O) (first : ℕ → Bool) (places : List ℕ) (path : List (Frame P))
+      (frame : Frame P) (next : P)
+      → AreMadeBy views first places path frame.point → views.made frame.point frame.place ≡ false →
       frame.place < views.count
-      → ((p : ℕ) → views.made next p ≡ (views.made frame.world p || p == frame.place)) →
+      → ((p : ℕ) → views.made next p ≡ (views.made frame.point p || p == frame.place)) →
       AreMadeBy views first places (path ++ frame ∷ []) next
   made_push views first places [] frame next h left within more =
-      (h, made_one views first places frame.world next frame.place h left within more)
+      (h, made_one views first places frame.point next frame.place h left within more)
   made_push views first places (f ∷ path) frame next h left within more =
       (h.0, made_push views first (places ++ f.place ∷ []) path frame next h.1 left within more)
 
-  pub made_pop : (views : Views W S O) (first : ℕ → Bool) (places : List ℕ) (path : List (Frame W))
-      (frame : Frame W) (world : W)
-      → AreMadeBy views first places (path ++ frame ∷ []) world → AreMadeBy views first places path frame.world
-  made_pop views first places [] frame world h = h.0
-  made_pop views first places (f ∷ path) frame world h = (
+  pub made_pop : (views : Views P S O) (first : ℕ → Bool) (places : List ℕ) (path : List (Frame P))
+      (frame : Frame P) (point : P)
+      → AreMadeBy views first places (path ++ frame ∷ []) point → AreMadeBy views first places path frame.point
+  made_pop views first places [] frame point h = h.0
+  made_pop views first places (f ∷ path) frame point h = (
     h.0,
-    made_pop views first (places ++ f.place ∷ []) path frame world h.1,
+    made_pop views first (places ++ f.place ∷ []) path frame point h.1,
   )

@@ -35,26 +35,26 @@ in_one x z h = elim (cons_cases x z [] h.0 h.1 h.2) [
   | inr c ↦ absurd (none_in z c)
 ]
 
-module _ {W C : Type 0} (at : W → C) where
-  in_left : (xs ys : List W) (c : C) → Contains (map at xs) c → Contains (map at (xs ++ ys)) c
+module _ {P C : Type 0} (at : P → C) where
+  in_left : (xs ys : List P) (c : C) → Contains (map at xs) c → Contains (map at (xs ++ ys)) c
   in_left xs ys c h = subst (λ l. Contains l c) (sym (map-append at xs ys))
       (Contains-append_left (map at xs) (map at ys) c h)
 
-  in_right : (xs ys : List W) (c : C) → Contains (map at ys) c → Contains (map at (xs ++ ys)) c
+  in_right : (xs ys : List P) (c : C) → Contains (map at ys) c → Contains (map at (xs ++ ys)) c
   in_right xs ys c h = subst (λ l. Contains l c) (sym (map-append at xs ys))
       (Contains-append_right (map at xs) (map at ys) c h)
 
-  in_cases : (xs ys : List W) (c : C) → Contains (map at (xs ++ ys)) c → Contains (map at xs) c ⊎
+  in_cases : (xs ys : List P) (c : C) → Contains (map at (xs ++ ys)) c → Contains (map at xs) c ⊎
       Contains (map at ys) c
   in_cases xs ys c h = Contains-append_cases (map at xs) (map at ys) c
       (subst (λ l. Contains l c) (map-append at xs ys) h)
 
-  no_more : (xs : List W) → xs ≡ xs ++ []
+  no_more : (xs : List P) → xs ≡ xs ++ []
   no_more [] = refl
   no_more (x ∷ xs) = ap (λ l. x ∷ l) (no_more xs)
 
-  -- no world, a known world and a new world are met
-  pub adds_none : (before : List W) → AddsNew at [] before before
+  -- no point, a known point and a new point are met
+  pub adds_none : (before : List P) → AddsNew at [] before before
   adds_none before = record {
     more = [];
     is = no_more before;
@@ -62,44 +62,44 @@ module _ {W C : Type 0} (at : W → C) where
     only = λ c h. h;
   }
 
-  pub adds_known : (world : W) (before after : List W) → after ≡ before → Contains (map at before) (at world) →
-      AddsNew at (world ∷ []) before after
-  adds_known world before after e k = record {
+  pub adds_known : (point : P) (before after : List P) → after ≡ before → Contains (map at before) (at point) →
+      AddsNew at (point ∷ []) before after
+  adds_known point before after e k = record {
     more = [];
     is = e ∙ no_more before;
     all = λ c h. subst (λ l. Contains (map at l) c) (sym e)
-        (subst (Contains (map at before)) (in_one (at world) c h) k);
+        (subst (Contains (map at before)) (in_one (at point) c h) k);
     only = λ c h. absurd (none_in c h);
   }
 
-  pub adds_new : (world : W) (before after : List W) → after ≡ before ++ world ∷ [] →
-      AddsNew at (world ∷ []) before after
-  adds_new world before after e = record {
-    more = world ∷ [];
+  pub adds_new : (point : P) (before after : List P) → after ≡ before ++ point ∷ [] →
+      AddsNew at (point ∷ []) before after
+  adds_new point before after e = record {
+    more = point ∷ [];
     is = e;
-    all = λ c h. subst (λ l. Contains (map at l) c) (sym e) (in_right before (world ∷ []) c h);
+    all = λ c h. subst (λ l. Contains (map at l) c) (sym e) (in_right before (point ∷ []) c h);
     only = λ c h. h;
   }
 
-  -- one world more is met
-  pub adds_more : (worlds : List W) (world : W) (before middle after : List W) → AddsNew at worlds before middle →
-      AddsNew at (world ∷ []) middle after → AddsNew at (worlds ++ world ∷ []) before after
-  adds_more worlds world before middle after a b = record {
+  -- one point more is met
+  pub adds_more : (points : List P) (point : P) (before middle after : List P) → AddsNew at points before middle →
+      AddsNew at (point ∷ []) middle after → AddsNew at (points ++ point ∷ []) before after
+  adds_more points point before middle after a b = record {
     more = a.more ++ b.more;
     is = b.is ∙ ap (λ l. l ++ b.more) a.is ∙ append_assoc before a.more b.more;
-    all = λ c h. elim (in_cases worlds (world ∷ []) c h) [
+    all = λ c h. elim (in_cases points (point ∷ []) c h) [
       | inl i ↦ subst (λ l. Contains (map at l) c) (sym b.is) (in_left middle b.more c (a.all c i))
       | inr i ↦ b.all c i
     ];
     only = λ c h. elim (in_cases a.more b.more c h) [
-      | inl i ↦ in_left worlds (world ∷ []) c (a.only c i)
-      | inr i ↦ in_right worlds (world ∷ []) c (b.only c i)
+      | inl i ↦ in_left points (point ∷ []) c (a.only c i)
+      | inr i ↦ in_right points (point ∷ []) c (b.only c i)
     ];
   }
 
-module _ {S O R : Type 0} (X : Rules S O R) {W : Type 0} (at : W → Configuration S O) where
+module _ {S O R : Type 0} (X : Rules S O R) {P : Type 0} (at : P → Configuration S O) where
   -- of the calls to try, all but those that are left were made
-  pub record HasTried (here : Configuration S O) (tries left : List (Call O)) (nexts : List W) : Type 0 where
+  pub record HasTried (here : Configuration S O) (tries left : List (Call O)) (nexts : List P) : Type 0 where
     pub only : (next : Configuration S O) → Contains (map at nexts) next → IsNextOf X here next
     pub all : (call : Call O) → Contains tries call → fits X here.state call ≡ true →
         Contains left call ⊎ Contains (map at nexts) (after_call X here call)
@@ -110,9 +110,9 @@ module _ {S O R : Type 0} (X : Rules S O R) {W : Type 0} (at : W → Configurati
     all = λ call h f. inl h;
   }
 
-  -- a call leads to a world
-  pub tried_made : (here : Configuration S O) (tries left others : List (Call O)) (nexts : List W) (call : Call O)
-      (next : W) → left ≡ call ∷ others → MayBegin here.rest call → fits X here.state call ≡ true →
+  -- a call leads to a point
+  pub tried_made : (here : Configuration S O) (tries left others : List (Call O)) (nexts : List P) (call : Call O)
+      (next : P) → left ≡ call ∷ others → MayBegin here.rest call → fits X here.state call ≡ true →
       at next ≡ after_call X here call → HasTried here tries left nexts →
       HasTried here tries others (nexts ++ next ∷ [])
   tried_made here tries left others nexts call next e may fit is h = record {
@@ -138,7 +138,7 @@ module _ {S O R : Type 0} (X : Rules S O R) {W : Type 0} (at : W → Configurati
   }
 
   -- a call has another reply
-  pub tried_lost : (here : Configuration S O) (tries left others : List (Call O)) (nexts : List W) (call : Call O) →
+  pub tried_lost : (here : Configuration S O) (tries left others : List (Call O)) (nexts : List P) (call : Call O) →
       left ≡ call ∷ others → fits X here.state call ≡ false → HasTried here tries left nexts →
       HasTried here tries others nexts
   tried_lost here tries left others nexts call e none h = record {
@@ -155,7 +155,7 @@ module _ {S O R : Type 0} (X : Rules S O R) {W : Type 0} (at : W → Configurati
   }
 
   -- all were made
-  pub tried_all : (here : Configuration S O) (tries left : List (Call O)) (nexts : List W) → left ≡ [] →
+  pub tried_all : (here : Configuration S O) (tries left : List (Call O)) (nexts : List P) → left ≡ [] →
       AreChoices here.rest tries → HasTried here tries left nexts → AreNextOf X at here nexts
   tried_all here tries left nexts e choices h = λ next. (
     h.only next,
@@ -166,34 +166,34 @@ module _ {S O R : Type 0} (X : Rules S O R) {W : Type 0} (at : W → Configurati
         ]),
   )
 
-  -- the worlds that were met are led to, and so are all those that calls lead to from the first ones
-  pub record Reaches (first : Configuration S O) (number : ℕ) (worlds : List W) : Type 0 where
-    pub has : Contains (map at worlds) first
-    pub only : (there : Configuration S O) → Contains (map at worlds) there → IsReached X first there
-    pub closed : (i : ℕ) (d : Configuration S O) (call : Call O) → i < number → i < length worlds →
-        Goes X (get_or (map at worlds) i d) call →
-        Contains (map at worlds) (after_call X (get_or (map at worlds) i d) call)
+  -- the points that were met are led to, and so are all those that calls lead to from the first ones
+  pub record Reaches (first : Configuration S O) (number : ℕ) (points : List P) : Type 0 where
+    pub has : Contains (map at points) first
+    pub only : (there : Configuration S O) → Contains (map at points) there → IsReached X first there
+    pub closed : (i : ℕ) (d : Configuration S O) (call : Call O) → i < number → i < length points →
+        Goes X (get_or (map at points) i d) call →
+        Contains (map at points) (after_call X (get_or (map at points) i d) call)
 
-  pub reaches_first : (world : W) (worlds : List W) → worlds ≡ world ∷ [] → Reaches (at world) 0 worlds
-  reaches_first world worlds e = record {
-    has = subst (λ l. Contains (map at l) (at world)) (sym e) (Contains-push [] (at world));
+  pub reaches_first : (point : P) (points : List P) → points ≡ point ∷ [] → Reaches (at point) 0 points
+  reaches_first point points e = record {
+    has = subst (λ l. Contains (map at l) (at point)) (sym e) (Contains-push [] (at point));
     only = λ there h. record {
       calls = [];
-      reaches = in_one (at world) there (subst (λ l. Contains (map at l) there) e h);
+      reaches = in_one (at point) there (subst (λ l. Contains (map at l) there) e h);
     };
     closed = λ i d call l m g. absurd (omega arith);
   }
 
-  -- the worlds after one more world are met
-  pub reaches_more_worlds : (first : Configuration S O) (number : ℕ) (worlds nexts after : List W) (here : W) →
-      number < length worlds → at here ≡ at (get_or worlds number here) → AreNextOf X at (at here) nexts →
-      AddsNew at nexts worlds after → Reaches first number worlds → Reaches first (number + 1) after
-  reaches_more_worlds first number worlds nexts after here within same n a h =
-      let here_is : (d : Configuration S O) → get_or (map at worlds) number d ≡ at here =
+  -- the points after one more point are met
+  pub reaches_more_points : (first : Configuration S O) (number : ℕ) (points nexts after : List P) (here : P) →
+      number < length points → at here ≡ at (get_or points number here) → AreNextOf X at (at here) nexts →
+      AddsNew at nexts points after → Reaches first number points → Reaches first (number + 1) after
+  reaches_more_points first number points nexts after here within same n a h =
+      let here_is : (d : Configuration S O) → get_or (map at points) number d ≡ at here =
       λ d. get_at d in
       record {
         has = kept first h.has;
-        only = λ there i. elim (in_cases at worlds a.more there (subst (λ l. Contains (map at l) there) a.is i)) [
+        only = λ there i. elim (in_cases at points a.more there (subst (λ l. Contains (map at l) there) a.is i)) [
           | inl l ↦ h.only there l
           | inr l ↦
               let next = (n there).0 (a.only there l) in
@@ -206,10 +206,10 @@ module _ {S O R : Type 0} (X : Rules S O R) {W : Type 0} (at : W → Configurati
         ];
         closed = λ i d call l m g. elim (cases_lt i number) [
           | inl old ↦
-              let short : i < length worlds = omega arith in
+              let short : i < length points = omega arith in
               let is = was i d short in
               subst (λ b. Contains (map at after) (after_call X b call)) (sym is)
-              (kept (after_call X (get_or (map at worlds) i d) call)
+              (kept (after_call X (get_or (map at points) i d) call)
               (h.closed i d call old short (subst (λ b. Goes X b call) is g)))
           | inr new ↦
               let own : i ≡ number = omega arith in
@@ -224,39 +224,39 @@ module _ {S O R : Type 0} (X : Rules S O R) {W : Type 0} (at : W → Configurati
         ];
       }
     where
-      kept : (b : Configuration S O) → Contains (map at worlds) b → Contains (map at after) b
-      kept b i = subst (λ l. Contains (map at l) b) (sym a.is) (in_left at worlds a.more b i)
+      kept : (b : Configuration S O) → Contains (map at points) b → Contains (map at after) b
+      kept b i = subst (λ l. Contains (map at l) b) (sym a.is) (in_left at points a.more b i)
 
-      get_at : (d : Configuration S O) → get_or (map at worlds) number d ≡ at here
-      get_at d = get_or-map at worlds number here d within ∙ sym same
+      get_at : (d : Configuration S O) → get_or (map at points) number d ≡ at here
+      get_at d = get_or-map at points number here d within ∙ sym same
 
-      here_in : Contains (map at worlds) (at here)
-      here_in = subst (Contains (map at worlds)) (get_at (at here))
-          (Contains-get_or (map at worlds) number (at here) (let k = length-map worlds at in omega arith))
+      here_in : Contains (map at points) (at here)
+      here_in = subst (Contains (map at points)) (get_at (at here))
+          (Contains-get_or (map at points) number (at here) (let k = length-map points at in omega arith))
 
-      was : (i : ℕ) (d : Configuration S O) → i < length worlds → get_or (map at after) i d ≡
-          get_or (map at worlds) i d
+      was : (i : ℕ) (d : Configuration S O) → i < length points → get_or (map at after) i d ≡
+          get_or (map at points) i d
       was i d l =
-          ap (λ x. get_or (map at x) i d) a.is ∙ ap (λ x. get_or x i d) (map-append at worlds a.more)
-          ∙ get_or_append_left (map at worlds) (map at a.more) d i (let k = length-map worlds at in omega arith)
+          ap (λ x. get_or (map at x) i d) a.is ∙ ap (λ x. get_or x i d) (map-append at points a.more)
+          ∙ get_or_append_left (map at points) (map at a.more) d i (let k = length-map points at in omega arith)
 
-  -- from a world that was met calls lead to worlds that were met
-  stays : (first : Configuration S O) (number : ℕ) (worlds : List W) → length worlds ≤ number →
-      Reaches first number worlds → (calls : List (Call O)) (here there : Configuration S O) →
-      Contains (map at worlds) here → CallsReach X here calls there → Contains (map at worlds) there
-  stays first number worlds l h [] here there i r = subst (Contains (map at worlds)) r i
-  stays first number worlds l h (c ∷ calls) here there i r =
-      let short : i.0 < length worlds = (let k = length-map worlds at in let m = i.1 in omega arith) in
-      stays first number worlds l h calls (after_call X here c) there
-      (subst (λ b. Contains (map at worlds) (after_call X b c)) i.2
+  -- from a point that was met calls lead to points that were met
+  stays : (first : Configuration S O) (number : ℕ) (points : List P) → length points ≤ number →
+      Reaches first number points → (calls : List (Call O)) (here there : Configuration S O) →
+      Contains (map at points) here → CallsReach X here calls there → Contains (map at points) there
+  stays first number points l h [] here there i r = subst (Contains (map at points)) r i
+  stays first number points l h (c ∷ calls) here there i r =
+      let short : i.0 < length points = (let k = length-map points at in let m = i.1 in omega arith) in
+      stays first number points l h calls (after_call X here c) there
+      (subst (λ b. Contains (map at points) (after_call X b c)) i.2
       (h.closed i.0 here c (omega arith) short (subst (λ b. Goes X b c) (sym i.2) r.0)))
       r.1
 
-  pub reaches_all : (first : Configuration S O) (number : ℕ) (worlds : List W) → length worlds ≤ number →
-      Reaches first number worlds → AreReached X at first worlds
-  reaches_all first number worlds l h = λ there. (
+  pub reaches_all : (first : Configuration S O) (number : ℕ) (points : List P) → length points ≤ number →
+      Reaches first number points → AreReached X at first points
+  reaches_all first number points l h = λ there. (
     h.only there,
-    λ r. stays first number worlds l h r.calls first there h.has r.reaches,
+    λ r. stays first number points l h r.calls first there h.has r.reaches,
   )
 
   -- the calls that lead to a configuration leave its state
@@ -265,10 +265,10 @@ module _ {S O R : Type 0} (X : Rules S O R) {W : Type 0} (at : W → Configurati
   state_reached a b [] r = ap (λ (x : Configuration S O). x.state) r
   state_reached a b (c ∷ calls) r = state_reached (after_call X a c) b calls r.1
 
-  pub left_of : (s : S) (calls : List (Call O)) (first : Configuration S O) (worlds : List W) (states : List S) →
-      IsWhole calls → first ≡ start s calls → AreReached X at first worlds → AreFinal at worlds states →
+  pub left_of : (s : S) (calls : List (Call O)) (first : Configuration S O) (points : List P) (states : List S) →
+      IsWhole calls → first ≡ start s calls → AreReached X at first points → AreFinal at points states →
       AreLeft X s calls states
-  left_of s calls first worlds states w e reached final = λ state. (
+  left_of s calls first points states w e reached final = λ state. (
     λ i.
         let end = (final state).0 i in
         let led = (reached end.at).0 end.is in
@@ -295,52 +295,52 @@ module _ {S O R : Type 0} (X : Rules S O R) {W : Type 0} (at : W → Configurati
         }),
   )
 
-module _ {W S O : Type 0} (at : W → Configuration S O) where
+module _ {P S O : Type 0} (at : P → Configuration S O) where
   pub final_none : (states : List S) → states ≡ [] → AreFinal at [] states
   final_none states e = λ state. (
     λ i. absurd (none_in state (subst (λ l. Contains l state) e i)),
     λ f. absurd (none_in f.at f.is),
   )
 
-  -- in one more world no completed call is left
-  pub final_more : (worlds : List W) (world : W) (states after : List S) → answered (at world).rest ≡ 0 →
-      after ≡ states ++ (at world).state ∷ [] → AreFinal at worlds states →
-      AreFinal at (worlds ++ world ∷ []) after
-  final_more worlds world states after done e h = λ state. (
-    λ i. elim (Contains-push_cases states (at world).state state (subst (λ l. Contains l state) e i)) [
+  -- at one more point no completed call is left
+  pub final_more : (points : List P) (point : P) (states after : List S) → answered (at point).rest ≡ 0 →
+      after ≡ states ++ (at point).state ∷ [] → AreFinal at points states →
+      AreFinal at (points ++ point ∷ []) after
+  final_more points point states after done e h = λ state. (
+    λ i. elim (Contains-push_cases states (at point).state state (subst (λ l. Contains l state) e i)) [
       | inl l ↦
           let f = (h state).0 l in
-          record { at = f.at; is = in_left at worlds (world ∷ []) f.at f.is; done = f.done; state_is = f.state_is }
+          record { at = f.at; is = in_left at points (point ∷ []) f.at f.is; done = f.done; state_is = f.state_is }
       | inr own ↦ record {
-        at = at world;
-        is = in_right at worlds (world ∷ []) (at world) (Contains-push [] (at world));
+        at = at point;
+        is = in_right at points (point ∷ []) (at point) (Contains-push [] (at point));
         done = done;
         state_is = own;
       }
     ],
     λ f. subst (λ l. Contains l state) (sym e)
-        (elim (in_cases at worlds (world ∷ []) f.at f.is) [
-          | inl l ↦ Contains-append_left states ((at world).state ∷ []) state
+        (elim (in_cases at points (point ∷ []) f.at f.is) [
+          | inl l ↦ Contains-append_left states ((at point).state ∷ []) state
               ((h state).1 (record { at = f.at; is = l; done = f.done; state_is = f.state_is }))
-          | inr l ↦ subst (Contains (states ++ (at world).state ∷ []))
-              (ap (λ (b : Configuration S O). b.state) (in_one (at world) f.at l) ∙ f.state_is)
-              (Contains-push states (at world).state)
+          | inr l ↦ subst (Contains (states ++ (at point).state ∷ []))
+              (ap (λ (b : Configuration S O). b.state) (in_one (at point) f.at l) ∙ f.state_is)
+              (Contains-push states (at point).state)
         ]),
   )
 
   -- or one is left
-  pub final_less : (worlds : List W) (world : W) (states after : List S) → 0 < answered (at world).rest →
-      after ≡ states → AreFinal at worlds states → AreFinal at (worlds ++ world ∷ []) after
-  final_less worlds world states after some e h = λ state. (
+  pub final_less : (points : List P) (point : P) (states after : List S) → 0 < answered (at point).rest →
+      after ≡ states → AreFinal at points states → AreFinal at (points ++ point ∷ []) after
+  final_less points point states after some e h = λ state. (
     λ i.
         let f = (h state).0 (subst (λ l. Contains l state) e i) in
-        record { at = f.at; is = in_left at worlds (world ∷ []) f.at f.is; done = f.done; state_is = f.state_is },
+        record { at = f.at; is = in_left at points (point ∷ []) f.at f.is; done = f.done; state_is = f.state_is },
     λ f. subst (λ l. Contains l state) (sym e)
-        (elim (in_cases at worlds (world ∷ []) f.at f.is) [
+        (elim (in_cases at points (point ∷ []) f.at f.is) [
           | inl l ↦ (h state).1 (record { at = f.at; is = l; done = f.done; state_is = f.state_is })
           | inr l ↦
-              let none : answered (at world).rest ≡ 0 =
-              ap (λ (b : Configuration S O). answered b.rest) (in_one (at world) f.at l) ∙ f.done in
+              let none : answered (at point).rest ≡ 0 =
+              ap (λ (b : Configuration S O). answered b.rest) (in_one (at point) f.at l) ∙ f.done in
               absurd (omega arith)
         ]),
   )

@@ -39,7 +39,7 @@ module _ {S O R : Type 0} (X : Rules S O R) where
   has_run zero start search most h = tt
   has_run (suc steps) start search most h = (h.0, h.1, h.2)
 
-  places_calls : {W : Type 0} (views : Views W S O) (path : List (Frame W)) →
+  places_calls : {P : Type 0} (views : Views P S O) (path : List (Frame P)) →
       map (λ (p : PathPlace S O). p.call) (map (path_place views) path) ≡ map views.call (places_of path)
   places_calls views [] = refl
   places_calls views (f ∷ fs) = ap (λ l. views.call f.place ∷ l) (places_calls views fs)
@@ -126,18 +126,18 @@ module _ {S O R : Type 0} (X : Rules S O R) where
             deepest = record { at = d.at; is = get_front known (at ∷ []) best d.at d.is; deepest = d.deepest };
           }
 
-  better_of : {W : Type 0} (views : Views W S O) (start : Configuration S O) (steps : ℕ) (walk : Walk W) →
+  better_of : {P : Type 0} (views : Views P S O) (start : Configuration S O) (steps : ℕ) (walk : Walk P) →
       (WalksWith X) views start steps walk []
-      → Better start (views.at walk.world) walk.most walk.placed (map views.at walk.known.worlds.items)
-      (best_of (length walk.known.worlds.items) walk.placed walk.best walk.most)
+      → Better start (views.at walk.point) walk.most walk.placed (map views.at walk.known.points.items)
+      (best_of (length walk.known.points.items) walk.placed walk.best walk.most)
   better_of views start steps walk w =
-      subst (λ n. Better start (views.at walk.world) walk.most walk.placed (map views.at walk.known.worlds.items)
+      subst (λ n. Better start (views.at walk.point) walk.most walk.placed (map views.at walk.known.points.items)
       (best_of n walk.placed walk.best walk.most))
-      (length-map walk.known.worlds.items views.at)
-      (better start (views.at walk.world) walk.most walk.placed walk.best [] (map (path_place views) walk.path.items)
-      (map views.at walk.known.worlds.items) w.is w.deepest)
+      (length-map walk.known.points.items views.at)
+      (better start (views.at walk.point) walk.most walk.placed walk.best [] (map (path_place views) walk.path.items)
+      (map views.at walk.known.points.items) w.is w.deepest)
 
-  -- the most that had a place where one more is known, and the world that is gone back to has less
+  -- the most that had a place where one more is known, and the point that is gone back to has less
   best_most : (start at : Configuration S O) (most placed best : ℕ) (tries : List (Call O))
       (path : List (PathPlace S O))
       (known : List (Configuration S O))
@@ -156,15 +156,15 @@ module _ {S O R : Type 0} (X : Rules S O R) where
       go false e true f = let z : most < placed = grind (arith, nat_tests) in omega arith
       go false e false f = let z : placed ≤ most = grind (arith, nat_tests) in omega arith
 
-  -- a walk whose world goes to those that are known
-  pub steps_back : {W : Type 0} (views : Views W S O) (start : Configuration S O) (steps : ℕ) (walk : Walk W)
-      (frame : Frame W)
-      (path : Vec (Frame W)) (known : Known W) (pair : ℕ × ℕ)
-      → walk.path.items ≡ path.items ++ frame ∷ [] → known.worlds.items ≡ walk.known.worlds.items ++ walk.world ∷ []
-      → pair ≡ best_of (length walk.known.worlds.items) walk.placed walk.best walk.most →
+  -- a walk whose point goes to those that are known
+  pub steps_back : {P : Type 0} (views : Views P S O) (start : Configuration S O) (steps : ℕ) (walk : Walk P)
+      (frame : Frame P)
+      (path : Vec (Frame P)) (known : Known P) (pair : ℕ × ℕ)
+      → walk.path.items ≡ path.items ++ frame ∷ [] → known.points.items ≡ walk.known.points.items ++ walk.point ∷ []
+      → pair ≡ best_of (length walk.known.points.items) walk.placed walk.best walk.most →
       (WalksWith X) views start steps walk []
       → (Walks X) views start (suc steps) (record {
-        world = frame.world;
+        point = frame.point;
         placed = frame.placed;
         next = frame.next;
         path = path;
@@ -172,11 +172,11 @@ module _ {S O R : Type 0} (X : Rules S O R) where
         best = pair.0;
         most = pair.1;
       })
-  steps_back {W = W} views start steps walk frame path known pair p k b w =
-      let worlds = map views.at walk.known.worlds.items in
-      let at = views.at walk.world in
-      let to : Walk W = record {
-        world = frame.world;
+  steps_back {P = P} views start steps walk frame path known pair p k b w =
+      let points = map views.at walk.known.points.items in
+      let at = views.at walk.point in
+      let to : Walk P = record {
+        point = frame.point;
         placed = frame.placed;
         next = frame.next;
         path = path;
@@ -184,40 +184,40 @@ module _ {S O R : Type 0} (X : Rules S O R) where
         best = pair.0;
         most = pair.1;
       } in
-      let tries = views.tries frame.world frame.next in
-      let best = best_of (length walk.known.worlds.items) walk.placed walk.best walk.most in
+      let tries = views.tries frame.point frame.next in
+      let best = best_of (length walk.known.points.items) walk.placed walk.best walk.most in
       let one = better_of views start steps walk w in
       let places : map (path_place views) walk.path.items ≡ map
       (path_place views) path.items ++ path_place views frame ∷ [] =
       ap (map (path_place views)) p ∙ map_more (path_place views) path.items frame in
       let gone : (IsWalk X) start walk.most at walk.placed [] (map
       (path_place views) path.items ++ path_place views frame ∷ [])
-      worlds =
-      subst (λ ps. (IsWalk X) start walk.most at walk.placed [] ps worlds) places w.is in
-      let all : map views.at known.worlds.items ≡ worlds ++ at ∷ [] =
-      ap (map views.at) k ∙ map_more views.at walk.known.worlds.items walk.world in
+      points =
+      subst (λ ps. (IsWalk X) start walk.most at walk.placed [] ps points) places w.is in
+      let all : map views.at known.points.items ≡ points ++ at ∷ [] =
+      ap (map views.at) k ∙ map_more views.at walk.known.points.items walk.point in
       let less : frame.placed ≤ walk.placed = (back_less X) start at walk.most walk.placed
       (map (path_place views) path.items)
-      (path_place views frame) worlds gone in
+      (path_place views frame) points gone in
       let same : max best.1 frame.placed ≡ max walk.most walk.placed =
       ap (λ n. max (best_of n walk.placed walk.best walk.most).1 frame.placed)
-      (sym (length-map walk.known.worlds.items views.at))
-      ∙ best_most start at walk.most walk.placed walk.best [] (map (path_place views) walk.path.items) worlds w.is
+      (sym (length-map walk.known.points.items views.at))
+      ∙ best_most start at walk.most walk.placed walk.best [] (map (path_place views) walk.path.items) points w.is
       w.deepest
       frame.placed less in
       record {
-        is = subst (λ ks. (IsWalk X) start pair.1 (views.at frame.world) frame.placed tries
+        is = subst (λ ks. (IsWalk X) start pair.1 (views.at frame.point) frame.placed tries
             (map (path_place views) path.items) ks) (sym all)
-            (subst (λ q. (IsWalk X) start q.1 (views.at frame.world) frame.placed tries
+            (subst (λ q. (IsWalk X) start q.1 (views.at frame.point) frame.placed tries
             (map (path_place views) path.items)
-            (worlds ++ at ∷ [])) (sym b)
+            (points ++ at ∷ [])) (sym b)
             (walk_back X start at walk.most walk.placed best.1 (map (path_place views) path.items)
-            (path_place views frame) worlds gone one.more one.own));
+            (path_place views frame) points gone one.more one.own));
         deepest = subst (λ ks. (KeepsDeepest X) start pair.1 pair.0 ks) (sym all)
-            (subst (λ q. (KeepsDeepest X) start q.1 q.0 (worlds ++ at ∷ [])) (sym b)
-            (deepest_more start at best.1 best.0 worlds one.deepest));
+            (subst (λ q. (KeepsDeepest X) start q.1 q.0 (points ++ at ∷ [])) (sym b)
+            (deepest_more start at best.1 best.0 points one.deepest));
         made = (
-          search_of views walk.world walk.placed walk.path.items walk.known.worlds.items [],
+          search_of views walk.point walk.placed walk.path.items walk.known.points.items [],
           max walk.most walk.placed,
           w.made,
           inr (inr (record {
@@ -226,7 +226,7 @@ module _ {S O R : Type 0} (X : Rules S O R) where
             none = refl;
             led = places;
             is = ap (λ ks. record {
-              at = views.at frame.world;
+              at = views.at frame.point;
               placed = frame.placed;
               tries = tries;
               path = map (path_place views) path.items;
@@ -237,49 +237,49 @@ module _ {S O R : Type 0} (X : Rules S O R) where
               omega arith in omega arith),
         );
         first = w.first;
-        places = made_pop views w.first [] path.items frame walk.world
-            (subst (λ fs. AreMadeBy views w.first [] fs walk.world) p w.places);
+        places = made_pop views w.first [] path.items frame walk.point
+            (subst (λ fs. AreMadeBy views w.first [] fs walk.point) p w.places);
       }
 
   -- at the start that says how many have a place at most
-  pub steps_none : {W : Type 0} (views : Views W S O) (start : Configuration S O) (steps : ℕ) (walk : Walk W)
-      (known : List W)
-      (pair : ℕ × ℕ) (deepest : W)
-      → walk.path.items ≡ [] → known ≡ walk.known.worlds.items ++ walk.world ∷ []
-      → pair ≡ best_of (length walk.known.worlds.items) walk.placed walk.best walk.most →
+  pub steps_none : {P : Type 0} (views : Views P S O) (start : Configuration S O) (steps : ℕ) (walk : Walk P)
+      (known : List P)
+      (pair : ℕ × ℕ) (deepest : P)
+      → walk.path.items ≡ [] → known ≡ walk.known.points.items ++ walk.point ∷ []
+      → pair ≡ best_of (length walk.known.points.items) walk.placed walk.best walk.most →
       (WalksWith X) views start steps walk []
       → slice_get known pair.0 ≡ Some deepest → (FailsBy X) views start pair.1 deepest
   steps_none views start steps walk known pair deepest p k b w got =
-      let worlds = map views.at walk.known.worlds.items in
-      let at = views.at walk.world in
-      let one = subst (λ q. Better start at walk.most walk.placed worlds q) (sym b)
+      let points = map views.at walk.known.points.items in
+      let at = views.at walk.point in
+      let one = subst (λ q. Better start at walk.most walk.placed points q) (sym b)
       (better_of views start steps walk w) in
-      let all : map views.at known ≡ worlds ++ at ∷ [] = ap (map views.at) k ∙
-      map_more views.at walk.known.worlds.items walk.world in
+      let all : map views.at known ≡ points ++ at ∷ [] = ap (map views.at) k ∙
+      map_more views.at walk.known.points.items walk.point in
       let same : one.deepest.at ≡ views.at deepest =
       some_same one.deepest.at (views.at deepest) (sym one.deepest.is ∙ ap (λ l. slice_get l pair.0) (sym all) ∙
       slice_get-map views.at known pair.0 ∙ ap (option_map views.at) got) in
-      let none : (IsWalk X) start walk.most at walk.placed [] [] worlds =
-      subst (λ ps. (IsWalk X) start walk.most at walk.placed [] ps worlds) (ap (map (path_place views)) p) w.is in (
+      let none : (IsWalk X) start walk.most at walk.placed [] [] points =
+      subst (λ ps. (IsWalk X) start walk.most at walk.placed [] ps points) (ap (map (path_place views)) p) w.is in (
         subst (Deepest X start pair.1) same one.deepest.deepest,
         subst (PlacesAtMost X (answered start.rest) pair.1) (sym none.leads)
-            (walk_dead X start at walk.most walk.placed pair.1 [] worlds none one.more one.own),
+            (walk_dead X start at walk.most walk.placed pair.1 [] points none one.more one.own),
       )
 
   -- the first call that is left to try
-  pub tried : {W : Type 0} (views : Views W S O) (start : Configuration S O) (steps : ℕ) (walk : Walk W) (call : Call O)
+  pub tried : {P : Type 0} (views : Views P S O) (start : Configuration S O) (steps : ℕ) (walk : Walk P) (call : Call O)
       (tries : List (Call O))
-      → views.tries walk.world walk.next ≡ call ∷ tries → (Walks X) views start steps walk →
+      → views.tries walk.point walk.next ≡ call ∷ tries → (Walks X) views start steps walk →
       (WalksWith X) views start steps walk (call ∷ tries)
   tried views start steps walk call tries e w = subst (WalksWith X views start steps walk) e w
 
   -- the next call to try, which gives its reply, is tried from the place behind it
-  pub tries_place : {W : Type 0} (views : Views W S O) (start : Configuration S O) (steps : ℕ) (walk : Walk W)
+  pub tries_place : {P : Type 0} (views : Views P S O) (start : Configuration S O) (steps : ℕ) (walk : Walk P)
       (place : ℕ) →
-      IsNextToTry views walk.world walk.next place → (fits X) (views.at walk.world).state (views.call place) ≡ true →
+      IsNextToTry views walk.point walk.next place → (fits X) (views.at walk.point).state (views.call place) ≡ true →
       (Walks X) views start steps walk → (TriesPlace X) views start steps (record walk { next = place + 1 }) place
   tries_place views start steps walk place n fit w = record {
-    walks = tried views start steps walk (views.call place) (views.tries walk.world (place + 1)) n.is w;
+    walks = tried views start steps walk (views.call place) (views.tries walk.point (place + 1)) n.is w;
     goes = record { may = n.may; fit = fit };
     left = n.left;
   }
@@ -287,20 +287,20 @@ module _ {S O R : Type 0} (X : Rules S O R) where
   max_same : (m p : ℕ) → max m p ≡ max (max m p) p
   max_same m p = omega arith
 
-  pub steps_lost : {W : Type 0} (views : Views W S O) (start : Configuration S O) (steps : ℕ) (walk : Walk W)
+  pub steps_lost : {P : Type 0} (views : Views P S O) (start : Configuration S O) (steps : ℕ) (walk : Walk P)
       (call : Call O)
       (tries : List (Call O))
-      → (WalksWith X) views start steps walk (call ∷ tries) → MayBegin (views.at walk.world).rest call →
-      (fits X) (views.at walk.world).state call ≡ false
+      → (WalksWith X) views start steps walk (call ∷ tries) → MayBegin (views.at walk.point).rest call →
+      (fits X) (views.at walk.point).state call ≡ false
       → (WalksWith X) views start (suc steps) walk tries
   steps_lost views start steps walk call tries w may f = record {
-    is = (walk_lost X) start (views.at walk.world) walk.most walk.placed call tries
+    is = (walk_lost X) start (views.at walk.point) walk.most walk.placed call tries
         (map (path_place views) walk.path.items)
-        (map views.at walk.known.worlds.items) w.is
+        (map views.at walk.known.points.items) w.is
         (λ goes. absurd (false_true (sym f ∙ goes.fit)));
     deepest = w.deepest;
     made = (
-      search_of views walk.world walk.placed walk.path.items walk.known.worlds.items (call ∷ tries),
+      search_of views walk.point walk.placed walk.path.items walk.known.points.items (call ∷ tries),
       max walk.most walk.placed,
       w.made,
       inl (record { call = call; others = tries; tried = record { is = refl; may = may }; why = inl f; is = refl }),
@@ -313,54 +313,54 @@ module _ {S O R : Type 0} (X : Rules S O R) where
       false_true : false ≡ true → ⊥
       false_true e = cc
 
-  pub steps_found : {W : Type 0} (views : Views W S O) (start : Configuration S O) (steps : ℕ) (walk : Walk W)
+  pub steps_found : {P : Type 0} (views : Views P S O) (start : Configuration S O) (steps : ℕ) (walk : Walk P)
       (place : ℕ)
-      (next : W) (places : List ℕ)
+      (next : P) (places : List ℕ)
       → (TriesPlace X) views start steps walk place → place < views.count →
-      views.at next ≡ (after_call X) (views.at walk.world) (views.call place) →
+      views.at next ≡ (after_call X) (views.at walk.point) (views.call place) →
       TellsLeft (answered (views.at next).rest) true
-      → ((p : ℕ) → views.made next p ≡ (views.made walk.world p || p == place))
+      → ((p : ℕ) → views.made next p ≡ (views.made walk.point p || p == place))
       → places ≡ places_of walk.path.items ++ place ∷ [] → (CompletesBy X) views start places
   steps_found views start steps walk place next places w within e l more p =
-      let all = made_one views w.walks.first (places_of walk.path.items) walk.world next place
-      (made_all views w.walks.first [] walk.path.items walk.world w.walks.places) w.left within more in
+      let all = made_one views w.walks.first (places_of walk.path.items) walk.point next place
+      (made_all views w.walks.first [] walk.path.items walk.point w.walks.places) w.left within more in
       record {
         completes = subst (Completes X start)
             (ap (λ l. l ++ views.call place ∷ []) (places_calls views walk.path.items) ∙
             sym (map_more views.call (places_of walk.path.items) place) ∙ sym (ap (map views.call) p))
-            (walk_found X start (views.at walk.world) walk.most walk.placed
-            (views.call place ∷ views.tries walk.world walk.next) (map (path_place views) walk.path.items)
-            (map views.at walk.known.worlds.items) (views.call place) w.walks.is w.goes
+            (walk_found X start (views.at walk.point) walk.most walk.placed
+            (views.call place ∷ views.tries walk.point walk.next) (map (path_place views) walk.path.items)
+            (map views.at walk.known.points.items) (views.call place) w.walks.is w.goes
             (ap (λ (x : Configuration S O). answered x.rest) (sym e) ∙ l.0 refl));
         distinct = subst AreDistinct (sym p) all.distinct;
         within = subst (λ ps. All (λ place. place < views.count) ps) (sym p) all.within;
       }
 
-  pub steps_known : {W : Type 0} (views : Views W S O) (start : Configuration S O) (steps : ℕ) (walk : Walk W)
+  pub steps_known : {P : Type 0} (views : Views P S O) (start : Configuration S O) (steps : ℕ) (walk : Walk P)
       (place : ℕ)
       (next : Configuration S O)
-      → (TriesPlace X) views start steps walk place → next ≡ (after_call X) (views.at walk.world) (views.call place)
-      → Contains (map views.at walk.known.worlds.items) next → (Walks X) views start (suc steps) walk
+      → (TriesPlace X) views start steps walk place → next ≡ (after_call X) (views.at walk.point) (views.call place)
+      → Contains (map views.at walk.known.points.items) next → (Walks X) views start (suc steps) walk
   steps_known views start steps walk place next w e k =
       let total = answered start.rest in
       let call = views.call place in
-      let tries = views.tries walk.world walk.next in
+      let tries = views.tries walk.point walk.next in
       record {
-        is = (walk_lost X) start (views.at walk.world) walk.most walk.placed call tries
+        is = (walk_lost X) start (views.at walk.point) walk.most walk.placed call tries
             (map (path_place views) walk.path.items)
-            (map views.at walk.known.worlds.items) w.walks.is
+            (map views.at walk.known.points.items) w.walks.is
             (λ goes. subst (PlacesAtMost X total walk.most) e (all_at X (PlacesAtMost X total walk.most)
-            (map views.at walk.known.worlds.items) next w.walks.is.dead k));
+            (map views.at walk.known.points.items) next w.walks.is.dead k));
         deepest = w.walks.deepest;
         made = (
-          search_of views walk.world walk.placed walk.path.items walk.known.worlds.items (call ∷ tries),
+          search_of views walk.point walk.placed walk.path.items walk.known.points.items (call ∷ tries),
           max walk.most walk.placed,
           w.walks.made,
           inl (record {
             call = call;
             others = tries;
             tried = record { is = refl; may = w.goes.may };
-            why = inr (subst (Contains (map views.at walk.known.worlds.items)) e k);
+            why = inr (subst (Contains (map views.at walk.known.points.items)) e k);
             is = refl;
           }),
           max_same walk.most walk.placed,
@@ -372,23 +372,23 @@ module _ {S O R : Type 0} (X : Rules S O R) where
   max_more : (m p q : ℕ) → p ≤ q → max m q ≡ max (max m p) q
   max_more m p q l = omega arith
 
-  pub steps_on : {W : Type 0} (views : Views W S O) (start : Configuration S O) (steps : ℕ) (walk : Walk W)
+  pub steps_on : {P : Type 0} (views : Views P S O) (start : Configuration S O) (steps : ℕ) (walk : Walk P)
       (place count : ℕ)
-      (next : W) (path : Vec (Frame W))
+      (next : P) (path : Vec (Frame P))
       → (TriesPlace X) views start steps walk place → place < views.count →
-      views.at next ≡ (after_call X) (views.at walk.world) (views.call place)
+      views.at next ≡ (after_call X) (views.at walk.point) (views.call place)
       → TellsLeft (answered (views.at next).rest) false
-      → ((p : ℕ) → views.made next p ≡ (views.made walk.world p || p == place))
+      → ((p : ℕ) → views.made next p ≡ (views.made walk.point p || p == place))
       → AreChoices (views.at next).rest (views.tries next 0) → AreApart (views.tries next 0) →
       count ≡ walk.placed + weight (views.call place)
       → path.items ≡ walk.path.items ++ (record {
-        world = walk.world;
+        point = walk.point;
         placed = walk.placed;
         place = place;
         next = walk.next;
       }) ∷ []
       → (Walks X) views start (suc steps) (record {
-        world = next;
+        point = next;
         placed = count;
         next = 0;
         path = path;
@@ -396,14 +396,14 @@ module _ {S O R : Type 0} (X : Rules S O R) where
         best = walk.best;
         most = walk.most;
       })
-  steps_on {W = W} views start steps walk place count next path w within e l more choices apart c p =
-      let frame : Frame W = record { world = walk.world; placed = walk.placed; place = place; next = walk.next } in
-      let known = map views.at walk.known.worlds.items in
+  steps_on {P = P} views start steps walk place count next path w within e l more choices apart c p =
+      let frame : Frame P = record { point = walk.point; placed = walk.placed; place = place; next = walk.next } in
+      let known = map views.at walk.known.points.items in
       let call = views.call place in
-      let tries = views.tries walk.world walk.next in
-      let some : 1 ≤ answered (after_call X (views.at walk.world) call).rest =
+      let tries = views.tries walk.point walk.next in
+      let some : 1 ≤ answered (after_call X (views.at walk.point) call).rest =
       subst (λ (x : Configuration S O). 1 ≤ answered x.rest) e (l.1 refl) in
-      let on = (walk_on X) start (views.at walk.world) walk.most walk.placed count call tries (views.tries next 0)
+      let on = (walk_on X) start (views.at walk.point) walk.most walk.placed count call tries (views.tries next 0)
       (map (path_place views) walk.path.items) known w.walks.is w.goes c some
       (subst (λ (x : Configuration S O). AreChoices x.rest (views.tries next 0)) e choices) in
       let places : map (path_place views) path.items ≡ map (path_place views) walk.path.items ++ path_place views frame
@@ -414,12 +414,12 @@ module _ {S O R : Type 0} (X : Rules S O R) where
         is = subst (λ x. (IsWalk X) start walk.most x count (views.tries next 0)
             (map (path_place views) path.items) known)
             (sym e)
-            (subst (λ ps. (IsWalk X) start walk.most (after_call X (views.at walk.world) call) count
+            (subst (λ ps. (IsWalk X) start walk.most (after_call X (views.at walk.point) call) count
             (views.tries next 0) ps known)
             (sym places) on);
         deepest = w.walks.deepest;
         made = (
-          search_of views walk.world walk.placed walk.path.items walk.known.worlds.items (call ∷ tries),
+          search_of views walk.point walk.placed walk.path.items walk.known.points.items (call ∷ tries),
           max walk.most walk.placed,
           w.walks.made,
           inr (inl (record {
@@ -442,13 +442,13 @@ module _ {S O R : Type 0} (X : Rules S O R) where
             (made_push views w.walks.first [] walk.path.items frame next w.walks.places w.left within more);
       }
 
-  pub starts : {W : Type 0} (views : Views W S O) (world : W) (path : Vec (Frame W)) (known : Known W) →
+  pub starts : {P : Type 0} (views : Views P S O) (point : P) (path : Vec (Frame P)) (known : Known P) →
       path.items ≡ [] →
-      known.worlds.items ≡ []
-      → IsWhole (views.at world).rest → TellsLeft (answered (views.at world).rest) false →
-      AreChoices (views.at world).rest (views.tries world 0) → AreApart (views.tries world 0)
-      → (Walks X) views (views.at world) 0 (record {
-        world = world;
+      known.points.items ≡ []
+      → IsWhole (views.at point).rest → TellsLeft (answered (views.at point).rest) false →
+      AreChoices (views.at point).rest (views.tries point 0) → AreApart (views.tries point 0)
+      → (Walks X) views (views.at point) 0 (record {
+        point = point;
         placed = 0;
         next = 0;
         path = path;
@@ -456,13 +456,13 @@ module _ {S O R : Type 0} (X : Rules S O R) where
         best = 0;
         most = 0;
       })
-  starts views world path known p k whole l choices apart = record {
-    is = subst (λ ks. (IsWalk X) (views.at world) 0 (views.at world) 0 (views.tries world 0)
+  starts views point path known p k whole l choices apart = record {
+    is = subst (λ ks. (IsWalk X) (views.at point) 0 (views.at point) 0 (views.tries point 0)
         (map (path_place views) path.items) ks) (ap (map views.at) (sym k))
-        (subst (λ ps. (IsWalk X) (views.at world) 0 (views.at world) 0 (views.tries world 0) ps [])
+        (subst (λ ps. (IsWalk X) (views.at point) 0 (views.at point) 0 (views.tries point 0) ps [])
         (ap (map (path_place views)) (sym p))
-        (walk_start X (views.at world) (views.tries world 0) whole (l.1 refl) choices));
-    deepest = subst (λ ks. (KeepsDeepest X) (views.at world) 0 0 ks) (ap (map views.at) (sym k)) refl;
+        (walk_start X (views.at point) (views.tries point 0) whole (l.1 refl) choices));
+    deepest = subst (λ ks. (KeepsDeepest X) (views.at point) 0 0 ks) (ap (map views.at) (sym k)) refl;
     made = (
       record {
         at = refl;
@@ -475,8 +475,8 @@ module _ {S O R : Type 0} (X : Rules S O R) where
       },
       refl,
     );
-    first = views.made world;
-    places = subst (λ fs. AreMadeBy views (views.made world) [] fs world) (sym p) (made_none views world);
+    first = views.made point;
+    places = subst (λ fs. AreMadeBy views (views.made point) [] fs point) (sym p) (made_none views point);
   }
 
   -- where no completed call is left, the order is none
@@ -484,18 +484,18 @@ module _ {S O R : Type 0} (X : Rules S O R) where
   no_calls start l = record { to = start; reaches = refl; done = l.0 refl }
 
   -- the deeper of two places
-  places_max : {W : Type 0} (views : Views W S O) (start : Configuration S O) (steps : ℕ) (walk : Walk W)
+  places_max : {P : Type 0} (views : Views P S O) (start : Configuration S O) (steps : ℕ) (walk : Walk P)
       (tries : List (Call O))
       (n : ℕ) → (WalksWith X) views start steps walk tries
       → (n ≡ walk.placed) ⊎ ((n ≡ walk.most) × (walk.placed ≤ walk.most)) → (Places X) start n
   places_max views start steps walk tries n w (inl e) = record {
     calls = calls_of (map (path_place views) walk.path.items);
-    at = views.at walk.world;
+    at = views.at walk.point;
     reaches = (leads_reaches X) (answered start.rest) walk.most start (map (path_place views) walk.path.items)
-        (views.at walk.world) w.is.leads;
+        (views.at walk.point) w.is.leads;
     count = (let c = w.is.count in omega arith);
   }
-  places_max views start steps walk tries n w (inr e) = go (map views.at walk.known.worlds.items) w.deepest
+  places_max views start steps walk tries n w (inr e) = go (map views.at walk.known.points.items) w.deepest
     where
       go : (known : List (Configuration S O)) → (KeepsDeepest X) start walk.most walk.best known → (Places X) start n
       go [] z = record { calls = []; at = start; reaches = refl; count = (let m = e.0 in omega arith) }
@@ -508,13 +508,13 @@ module _ {S O R : Type 0} (X : Rules S O R) where
       }
 
   -- what is said of a search that has made its steps
-  pub undecided : {W : Type 0} (views : Views W S O) (start : Configuration S O) (steps : ℕ) (walk : Walk W)
+  pub undecided : {P : Type 0} (views : Views P S O) (start : Configuration S O) (steps : ℕ) (walk : Walk P)
       (tries : List (Call O))
       (n : ℕ) → (WalksWith X) views start steps walk tries
       → (n ≡ max walk.most walk.placed) → (IsUndecided X) start steps n
   undecided views start steps walk tries n w e = record {
-    search = search_of views walk.world walk.placed walk.path.items walk.known.worlds.items tries;
-    made = subst (HasMade X steps start (search_of views walk.world walk.placed walk.path.items walk.known.worlds.items
+    search = search_of views walk.point walk.placed walk.path.items walk.known.points.items tries;
+    made = subst (HasMade X steps start (search_of views walk.point walk.placed walk.path.items walk.known.points.items
         tries)) (sym e) w.made;
     placed = places_max views start steps walk tries n w (elim (cases_lt walk.most walk.placed) [
       | inl l ↦ inl (omega arith)

@@ -54,16 +54,16 @@ module _ {S O R : Type 0} (X : Rules S O R) where
       pub bound : PlacesAtMost X (answered calls) most (start s calls)
 
   -- what is found of the calls, from a state on, in this many steps
-  abbrev pub IsFoundOfCalls : {W : Type 0} → (W → Configuration S O) → S → List (Call O) → ℕ
-      → Finding W → Type 0
+  abbrev pub IsFoundOfCalls : {P : Type 0} → (P → Configuration S O) → S → List (Call O) → ℕ
+      → Finding P → Type 0
   IsFoundOfCalls at s calls steps (finding.Order places) = IsLinearizedBy s calls places.items
-  IsFoundOfCalls at s calls steps (finding.NoOrder most world) = HasNoOrder s calls most (at world)
+  IsFoundOfCalls at s calls steps (finding.NoOrder most point) = HasNoOrder s calls most (at point)
   IsFoundOfCalls at s calls steps (finding.Unknown most) = IsUndecided X (start s calls) steps most
 
   -- what is found of the calls, from a state on, in at most `steps` steps, and how many steps were
   -- made: all of them if nothing was found
-  pub record IsFoundIn {W : Type 0} (at : W → Configuration S O) (s : S) (calls : List (Call O))
-      (steps : ℕ) (found : Found W) : Type 0 where
+  pub record IsFoundIn {P : Type 0} (at : P → Configuration S O) (s : S) (calls : List (Call O))
+      (steps : ℕ) (found : Found P) : Type 0 where
     pub within : found.steps ≤ steps
     pub run : HasRun X found.steps (start s calls)
     pub finds : IsFoundOfCalls at s calls found.steps found.finding

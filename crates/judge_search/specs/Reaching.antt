@@ -7,13 +7,13 @@ use Rattle.judge_object.specs.Linear.{IsLinearization, state_after}
 use Rattle.judge_object.specs.Orders.{IsOrderOf}
 use Rattle.judge_search.specs.Configurations.{Configuration, Goes, CallsReach, after_call, answered}
 
--- given worlds are met: those that are not among the worlds that are known, as they are seen, are
--- added at the end
-pub record AddsNew {W C : Type 0} (at : W → C) (worlds before after : List W) : Type 0 where
-  pub more : List W
+-- given points are met: `after` is `before` with some of them behind it, and has the configuration
+-- of each of them
+pub record AddsNew {P C : Type 0} (at : P → C) (points before after : List P) : Type 0 where
+  pub more : List P
   pub is : after ≡ before ++ more
-  pub all : (c : C) → Contains (map at worlds) c → Contains (map at after) c
-  pub only : (c : C) → Contains (map at more) c → Contains (map at worlds) c
+  pub all : (c : C) → Contains (map at points) c → Contains (map at after) c
+  pub only : (c : C) → Contains (map at more) c → Contains (map at points) c
 
 module _ {S O R : Type 0} (X : Rules S O R) where
   -- a call that may come next in a configuration gives its reply, and leads to another one
@@ -22,22 +22,22 @@ module _ {S O R : Type 0} (X : Rules S O R) where
     pub goes : Goes X here call
     pub is : next ≡ after_call X here call
 
-  -- the worlds are exactly those that the calls lead to that may come next and give their replies
-  abbrev pub AreNextOf : {W : Type 0} → (W → Configuration S O) → Configuration S O → List W
+  -- the points are exactly those that the calls lead to that may come next and give their replies
+  abbrev pub AreNextOf : {P : Type 0} → (P → Configuration S O) → Configuration S O → List P
       → Type 0
-  AreNextOf at here worlds = (next : Configuration S O) →
-      Contains (map at worlds) next ↔ IsNextOf here next
+  AreNextOf at here points = (next : Configuration S O) →
+      Contains (map at points) next ↔ IsNextOf here next
 
   -- some calls, one after the other, may come next and give their replies, and lead there
   pub record IsReached (start there : Configuration S O) : Type 0 where
     pub calls : List (Call O)
     pub reaches : CallsReach X start calls there
 
-  -- the worlds are exactly those that calls lead to from a start
-  abbrev pub AreReached : {W : Type 0} → (W → Configuration S O) → Configuration S O → List W
+  -- the points are exactly those that calls lead to from a start
+  abbrev pub AreReached : {P : Type 0} → (P → Configuration S O) → Configuration S O → List P
       → Type 0
-  AreReached at start worlds = (there : Configuration S O) →
-      Contains (map at worlds) there ↔ IsReached start there
+  AreReached at start points = (there : Configuration S O) →
+      Contains (map at points) there ↔ IsReached start there
 
   -- some order of the calls is a linearization, from a state on, and leaves this state
   pub record IsLeft (s : S) (calls : List (Call O)) (state : S) : Type 0 where
@@ -57,6 +57,6 @@ pub record IsFinalIn {S O : Type 0} (reached : List (Configuration S O)) (state 
   pub done : answered at.rest ≡ 0
   pub state_is : at.state ≡ state
 
--- the states of the worlds in which no completed call is left are exactly these
-abbrev pub AreFinal : {W S O : Type 0} → (W → Configuration S O) → List W → List S → Type 0
-AreFinal at worlds states = (state : _) → Contains states state ↔ IsFinalIn (map at worlds) state
+-- the states of the points at which no completed call is left are exactly these
+abbrev pub AreFinal : {P S O : Type 0} → (P → Configuration S O) → List P → List S → Type 0
+AreFinal at points states = (state : _) → Contains states state ↔ IsFinalIn (map at points) state

@@ -19,129 +19,129 @@ use Rattle.judge_search.specs.Views.{Views}
 abbrev pub AreDistinct : List ℕ → Type 0
 AreDistinct numbers = (number : ℕ) → sum_by (λ other. if other == number then 1 else 0) numbers ≤ 1
 
--- which of the worlds that are known is the deepest and how many have a place in it, where one more
--- is known that has this number
+-- the number of the deepest known point, and how many completed calls have a position there, after
+-- one more point is known, of this number and with so many calls that have a position
 abbrev pub best_of : ℕ → ℕ → ℕ → ℕ → ℕ × ℕ
 best_of number placed best most =
     if number == 0 || nat_lt most placed then (number, placed) else (best, most)
 
-module _ {W : Type 0} where
-  -- the deepest of the worlds that are known is one of them, where there are any
-  abbrev pub BestIsWithin : Walk W → Type 0
-  BestIsWithin walk = walk.best ≤ vec_len walk.known.worlds
+module _ {P : Type 0} where
+  -- the number of the deepest point is at most the number of known points
+  abbrev pub BestIsWithin : Walk P → Type 0
+  BestIsWithin walk = walk.best ≤ vec_len walk.known.points
 
-  abbrev pub StaysWithin : Step W → Type 0
+  abbrev pub StaysWithin : Step P → Type 0
   StaysWithin (step.On walk) = BestIsWithin walk
   StaysWithin (step.Found places) = ⊤
-  StaysWithin (step.NoOrder most world) = ⊤
+  StaysWithin (step.NoOrder most point) = ⊤
 
   -- the places of the calls of a path
-  abbrev pub places_of : List (Frame W) → List ℕ
+  abbrev pub places_of : List (Frame P) → List ℕ
   places_of path = map (λ frame. frame.place) path
 
 -- the search neither found an order nor saw that there is none
-abbrev pub IsUnknown : {W : Type 0} → Finding W → Type 0
+abbrev pub IsUnknown : {P : Type 0} → Finding P → Type 0
 IsUnknown (finding.Order places) = ⊥
-IsUnknown (finding.NoOrder most world) = ⊥
+IsUnknown (finding.NoOrder most point) = ⊥
 IsUnknown (finding.Unknown most) = ⊤
 
-module _ {W S O : Type 0} where
+module _ {P S O : Type 0} where
   -- the place of the path that a frame stands for
-  abbrev pub path_place : Views W S O → Frame W → PathPlace S O
+  abbrev pub path_place : Views P S O → Frame P → PathPlace S O
   path_place views frame = record {
-    at = views.at frame.world;
+    at = views.at frame.point;
     placed = frame.placed;
     call = views.call frame.place;
-    others = views.tries frame.world frame.next;
+    others = views.tries frame.point frame.next;
   }
 
-  -- besides the calls that had a place before, those at these places have one in a world, each once
-  pub record AreMade (views : Views W S O) (first : ℕ → Bool) (places : List ℕ) (world : W) :
+  -- besides the calls that had a place before, those at these places have one at a point, each once
+  pub record AreMade (views : Views P S O) (first : ℕ → Bool) (places : List ℕ) (point : P) :
       Type 0 where
     pub made : (p : ℕ) →
-        views.made world p ≡ (first p || list_any (λ other. other == p) places)
+        views.made point p ≡ (first p || list_any (λ other. other == p) places)
     pub distinct : AreDistinct places
     pub within : All (λ p. p < views.count) places
 
   -- this holds all along a path, after these places
-  abbrev pub AreMadeBy : Views W S O → (ℕ → Bool) → List ℕ → List (Frame W) → W → Type 0
-  AreMadeBy views first places [] world = AreMade views first places world
-  AreMadeBy views first places (frame ∷ path) world =
-      AreMade views first places frame.world
-      × AreMadeBy views first (places ++ frame.place ∷ []) path world
+  abbrev pub AreMadeBy : Views P S O → (ℕ → Bool) → List ℕ → List (Frame P) → P → Type 0
+  AreMadeBy views first places [] point = AreMade views first places point
+  AreMadeBy views first places (frame ∷ path) point =
+      AreMade views first places frame.point
+      × AreMadeBy views first (places ++ frame.place ∷ []) path point
 
   -- the search that a walk is, with these calls left to try
-  abbrev pub search_of : Views W S O → W → ℕ → List (Frame W) → List W → List (Call O) → Search S O
-  search_of views world placed path known tries = record {
-    at = views.at world;
+  abbrev pub search_of : Views P S O → P → ℕ → List (Frame P) → List P → List (Call O) → Search S O
+  search_of views point placed path known tries = record {
+    at = views.at point;
     placed = placed;
     tries = tries;
     path = map (path_place views) path;
     known = map views.at known;
   }
 
-module _ {S O R : Type 0} (X : Rules S O R) {W : Type 0} where
+module _ {S O R : Type 0} (X : Rules S O R) {P : Type 0} where
   -- a search that began there and has made `steps` steps: where it is, how many completed calls
-  -- have a place, its path, the worlds that are known, the deepest of them, how many have a place
+  -- have a place, its path, the points that are known, the deepest of them, how many have a place
   -- there, and the calls that are left to try
-  pub record IsSearch (views : Views W S O) (start : Configuration S O) (steps : ℕ) (world : W)
-      (placed : ℕ) (path : List (Frame W)) (known : List W) (best most : ℕ)
+  pub record IsSearch (views : Views P S O) (start : Configuration S O) (steps : ℕ) (point : P)
+      (placed : ℕ) (path : List (Frame P)) (known : List P) (best most : ℕ)
       (tries : List (Call O)) : Type 0 where
-    pub is : IsWalk X start most (views.at world) placed tries (map (path_place views) path)
+    pub is : IsWalk X start most (views.at point) placed tries (map (path_place views) path)
         (map views.at known)
     pub deepest : KeepsDeepest X start most best (map views.at known)
-    pub made : HasMade X steps start (search_of views world placed path known tries)
+    pub made : HasMade X steps start (search_of views point placed path known tries)
         (max most placed)
     pub first : ℕ → Bool
-    pub places : AreMadeBy views first [] path world
+    pub places : AreMadeBy views first [] path point
 
   -- a walk that began there and has made `steps` steps, with these calls left to try
-  abbrev pub WalksWith : Views W S O → Configuration S O → ℕ → Walk W → List (Call O) → Type 0
+  abbrev pub WalksWith : Views P S O → Configuration S O → ℕ → Walk P → List (Call O) → Type 0
   WalksWith views start steps walk tries =
-      IsSearch views start steps walk.world walk.placed walk.path.items walk.known.worlds.items
+      IsSearch views start steps walk.point walk.placed walk.path.items walk.known.points.items
       walk.best walk.most tries
 
-  abbrev pub Walks : Views W S O → Configuration S O → ℕ → Walk W → Type 0
+  abbrev pub Walks : Views P S O → Configuration S O → ℕ → Walk P → Type 0
   Walks views start steps walk =
-      WalksWith views start steps walk (views.tries walk.world walk.next)
+      WalksWith views start steps walk (views.tries walk.point walk.next)
 
   -- a search that tries the call at a place, which may come next, gives its reply and has no place
   -- yet
-  pub record TriesPlace (views : Views W S O) (start : Configuration S O) (steps : ℕ)
-      (walk : Walk W) (place : ℕ) : Type 0 where
+  pub record TriesPlace (views : Views P S O) (start : Configuration S O) (steps : ℕ)
+      (walk : Walk P) (place : ℕ) : Type 0 where
     pub walks : WalksWith views start steps walk
-        (views.call place ∷ views.tries walk.world walk.next)
-    pub goes : Goes X (views.at walk.world) (views.call place)
-    pub left : views.made walk.world place ≡ false
+        (views.call place ∷ views.tries walk.point walk.next)
+    pub goes : Goes X (views.at walk.point) (views.call place)
+    pub left : views.made walk.point place ≡ false
 
   -- these places name an order of all calls, each once
-  pub record CompletesBy (views : Views W S O) (start : Configuration S O) (places : List ℕ) :
+  pub record CompletesBy (views : Views P S O) (start : Configuration S O) (places : List ℕ) :
       Type 0 where
     pub completes : Completes X start (map views.call places)
     pub distinct : AreDistinct places
     pub within : All (λ place. place < views.count) places
 
-  -- no order has more calls placed than lead to this world
-  abbrev pub FailsBy : Views W S O → Configuration S O → ℕ → W → Type 0
-  FailsBy views start most world =
-      Deepest X start most (views.at world) × PlacesAtMost X (answered start.rest) most start
+  -- no order has more calls placed than lead to this point
+  abbrev pub FailsBy : Views P S O → Configuration S O → ℕ → P → Type 0
+  FailsBy views start most point =
+      Deepest X start most (views.at point) × PlacesAtMost X (answered start.rest) most start
 
   -- what a step of a search leads to, which has then made `steps` steps
-  abbrev pub StepsTo : Views W S O → Configuration S O → ℕ → Step W → Type 0
+  abbrev pub StepsTo : Views P S O → Configuration S O → ℕ → Step P → Type 0
   StepsTo views start steps (step.On walk) = Walks views start steps walk
   StepsTo views start steps (step.Found places) = CompletesBy views start places.items
-  StepsTo views start steps (step.NoOrder most world) = FailsBy views start most world
+  StepsTo views start steps (step.NoOrder most point) = FailsBy views start most point
 
   -- what is found from a configuration, in `steps` steps
-  abbrev pub FindsFrom : Views W S O → Configuration S O → ℕ → Finding W → Type 0
+  abbrev pub FindsFrom : Views P S O → Configuration S O → ℕ → Finding P → Type 0
   FindsFrom views start steps (finding.Order places) = CompletesBy views start places.items
-  FindsFrom views start steps (finding.NoOrder most world) = FailsBy views start most world
+  FindsFrom views start steps (finding.NoOrder most point) = FailsBy views start most point
   FindsFrom views start steps (finding.Unknown most) = IsUndecided X start steps most
 
   -- what is found from a configuration in at most `steps` steps, and how many steps were made: all
   -- of them if nothing was found
-  pub record FindsIn (views : Views W S O) (start : Configuration S O) (steps : ℕ)
-      (found : Found W) : Type 0 where
+  pub record FindsIn (views : Views P S O) (start : Configuration S O) (steps : ℕ)
+      (found : Found P) : Type 0 where
     pub within : found.steps ≤ steps
     pub run : HasRun X found.steps start
     pub finds : FindsFrom views start found.steps found.finding

@@ -16,7 +16,6 @@ mod reaching;
 mod sorting;
 mod stuck;
 mod walk;
-mod world;
 
 pub use calls::Calls;
 pub use order::{find_linearization, is_linearization};

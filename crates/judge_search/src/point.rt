@@ -7,13 +7,13 @@ ghost use Rattle.judge_search.specs.Calls.{calls_of, are_sorted, rest_of};
 ghost use Rattle.judge_search.specs.Calls.{can_come, TellsTry, TellsTryBefore, IsFirstOf, AreAlike};
 ghost use Rattle.judge_object.specs.declared.line.Line.{Line as Lines};
 ghost use Rattle.judge_search.specs.Configurations.{answered};
-ghost use Rattle.judge_search.specs.Views.{TellsLeft, LedTo};
-ghost use Rattle.judge_search.specs.Point.{point_views, RunsTo};
-ghost use Rattle.judge_object.specs.Call.{Call};
+ghost use Rattle.judge_search.specs.Views.{TellsLeft, TellsNext, LedTo};
+ghost use Rattle.judge_search.specs.Point.{made_of, point_at, point_views, RunsTo};
+ghost use Rattle.judge_search.specs.Walk.{AreChoices, AreApart};
+ghost use Rattle.judge_object.specs.Call.{Call, is_completed};
 
 use crate::calls::Calls;
 use crate::marks::{first_left, is_made, mark};
-use crate::world::World;
 use judge_object::{Line, NEVER, Object, is_right};
 use std::alloc::{AllocError, Global};
 
@@ -79,6 +79,14 @@ pub(crate) fn is_finished<M: Object>(low: usize, beyond: &[usize], lines: &[Line
         return true;
     }
     NEVER <= lines[first].end
+}
+
+/// Returns whether the call at a place is completed.
+pub(crate) fn is_completed<M: Object>(calls: &Calls<M::Op>, place: usize) -> bool
+    requires { place < length calls.now.lines.items }
+    ensures { result ≡ is_completed ((point_views M.rules calls.now).call place) }
+{
+    calls.as_slice()[place].end < NEVER
 }
 
 /// Returns the later of a place and another.
@@ -197,43 +205,59 @@ fn point_after<M: Object + Drop>(
     }))
 }
 
-impl<M: Object + Drop> World for Point<M> {
-    type Ground = Calls<M::Op>;
-
-    type Of = M;
-
-    ghost view = { λ calls. point_views M.rules calls };
-
-    fn is_done(&self, calls: &Calls<M::Op>) -> bool {
+impl<M: Object + Drop> Point<M> {
+    /// Returns whether no completed call is left.
+    ///
+    /// Also shown, for the search: the calls that may come next are all among those to try, and no
+    /// two of those are of one client.
+    pub(crate) fn is_done(&self, calls: &Calls<M::Op>) -> bool
+        ensures left { TellsLeft (answered (point_at M.rules calls.now self.now).rest) result }
+        ensures all { AreChoices (point_at M.rules calls.now self.now).rest
+            ((point_views M.rules calls.now).tries self.now 0) }
+        ensures apart { AreApart ((point_views M.rules calls.now).tries self.now 0) }
+    {
         is_finished::<M>(self.low, self.beyond.as_slice(), calls.as_slice())
     }
 
-    fn next_try(&self, calls: &Calls<M::Op>, from: usize) -> Option<usize> {
+    /// Returns the place of the first call from a place on that may come next.
+    pub(crate) fn next_try(&self, calls: &Calls<M::Op>, from: usize) -> Option<usize>
+        ensures { TellsNext (point_views M.rules calls.now) self.now from result }
+    {
         next_call::<M>(self.low, self.beyond.as_slice(), calls, from)
     }
 
-    fn after(
+    /// Returns the point after a call that may come next, if the reply is the correct one.
+    pub(crate) fn after(
         &self,
         alloc: Global,
         calls: &Calls<M::Op>,
         place: usize,
-    ) -> Result<Option<Self>, AllocError> {
+    ) -> Result<Option<Self>, AllocError>
+        requires can { can_come M.rules (made_of self.now) (calls_of calls.now.lines.items) place
+            ≡ true }
+        requires within { place < length calls.now.lines.items }
+        ensures { IfOk result (λ next.
+            LedTo M.rules (point_views M.rules calls.now) self.now place next) }
+    {
         let made = self.machine.make(&calls.as_slice()[place].op)?;
         let next = point_after(alloc, calls, self.low, self.beyond.as_slice(), place, made)?;
         Ok(next)
     }
 
-    fn is_completed(&self, calls: &Calls<M::Op>, place: usize) -> bool {
-        calls.as_slice()[place].end < NEVER
-    }
-
-    fn is_same(&self, _calls: &Calls<M::Op>, other: &Self) -> bool {
+    /// Returns true only if both points are equal.
+    pub(crate) fn is_same(&self, other: &Self) -> bool
+        ensures { result ≡ true → (calls : Calls M.Op) →
+            point_at M.rules calls self.now ≡ point_at M.rules calls other.now }
+    {
         self.low == other.low
             && self.beyond.as_slice() == other.beyond.as_slice()
             && self.machine.is_same(&other.machine)
     }
 
-    fn hash(&self, _calls: &Calls<M::Op>) -> u64 {
+    /// Returns a hash of the point, which is meant to be the same for equal points.
+    ///
+    /// Not said: anything about the hash.
+    pub(crate) fn hash(&self) -> u64 {
         let mut hash = self.machine.hash() ^ self.low as u64;
         for place in self.beyond.as_slice() {
             hash = hash.wrapping_mul(0x9e37_79b9_7f4a_7c15) ^ *place as u64;

@@ -9,7 +9,6 @@ ghost use Rattle.judge_search.specs.Walk.{IsWhole};
 use crate::calls::Calls;
 use crate::known::Known;
 use crate::point::Point;
-use crate::world::World;
 use judge_object::Object;
 use std::alloc::{AllocError, Global};
 
@@ -35,15 +34,14 @@ fn points_after<M: Object + Drop>(
 
 /// Adds each point that is not known yet.
 fn meet_all<M: Object + Drop>(
-    calls: &Calls<M::Op>,
     known: &mut Known<Point<M>>,
     points: Vec<Point<M>>,
 ) -> Result<(), AllocError>
-    ensures { OnOk result (AddsNew (point_at M.rules calls.now) points.items
-        known.old.worlds.items known.new.worlds.items) }
+    ensures { OnOk result ((calls : Calls M.Op) → AddsNew (point_at M.rules calls) points.items
+        known.old.points.items known.new.points.items) }
 {
     'points: for point in points {
-        known.meet(calls, point)?;
+        known.meet(point)?;
     }
     Ok(())
 }
@@ -62,14 +60,14 @@ fn reach_all<M: Object + Drop>(
         (point_at M.rules calls.now) (point_at M.rules calls.now start) points.items)) }
 {
     let mut known = Known::new(alloc);
-    known.add(calls, start)?;
+    known.add(start)?;
     'points: for number in 0..most {
-        if known.worlds.len() <= number {
-            return Ok(Some(known.worlds));
+        if known.points.len() <= number {
+            return Ok(Some(known.points));
         }
-        let nexts = points_after(alloc, calls, &known.worlds[number])?;
-        meet_all(calls, &mut known, nexts)?;
-        if most < known.worlds.len() {
+        let nexts = points_after(alloc, calls, &known.points[number])?;
+        meet_all(&mut known, nexts)?;
+        if most < known.points.len() {
             return Ok(None);
         }
     }

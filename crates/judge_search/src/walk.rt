@@ -1,47 +1,49 @@
-//! The search for an order: a walk through worlds, one call at a time, and back if nothing is left
+//! The search for an order: a walk through points, one call at a time, and back if nothing is left
 //! to try.
 
-ghost use Rattle.std.specs.Prelude.{◌≡◌, ◌<◌, ◌≤◌, ◌+◌, ◌++◌, ◌∷◌, [], ◌||◌, ◌==◌, ℕ, suc, max, IfOk, IfSome, if◌then◌else◌};
+ghost use Rattle.std.specs.Prelude.{◌≡◌, ◌<◌, ◌≤◌, ◌+◌, ◌++◌, ◌∷◌, [], ◌||◌, ◌==◌, ℕ, suc, max, length, IfOk, IfSome, if◌then◌else◌};
 ghost use Rattle.judge_search.specs.Configurations.{Configuration, after_call};
+ghost use Rattle.judge_search.specs.Point.{made_of, point_at, point_views};
 ghost use Rattle.judge_search.specs.Walk.{IsWhole};
 ghost use Rattle.judge_search.specs.Walking.{BestIsWithin, StaysWithin, Walks, WalksWith, TriesPlace, StepsTo, FindsIn, places_of, best_of};
 
+use crate::calls::Calls;
 use crate::known::Known;
 use crate::path::{Frame, Walk};
-use crate::world::World;
-use judge_object::Watcher;
+use crate::point::{Point, is_completed};
+use judge_object::{Object, Watcher};
 use std::alloc::{AllocError, Global};
 
 /// The result of a step of the search.
 #[derive(Drop)]
-pub(crate) enum Step<W> {
-    On(Walk<W>),
+pub(crate) enum Step<P> {
+    On(Walk<P>),
     Found(Vec<usize>),
-    NoOrder(u64, W),
+    NoOrder(u64, P),
 }
 
 /// The finding of a search.
 #[derive(Drop)]
-pub enum Finding<W> {
+pub enum Finding<P> {
     /// A linearization, by the places of its calls.
     Order(Vec<usize>),
     /// No linearization exists. At most this many completed calls can have a position: as many as
-    /// in this world.
-    NoOrder(u64, W),
-    /// All steps were made without a result. This many completed calls had a position in one world,
-    /// and no world had more.
+    /// at this point.
+    NoOrder(u64, P),
+    /// All steps were made without a result. This many completed calls had a position at one point,
+    /// and no point had more.
     Unknown(u64),
 }
 
 /// A finding of a search, and the number of steps that the search made.
 #[derive(Drop)]
-pub struct Found<W> {
-    pub finding: Finding<W>,
+pub struct Found<P> {
+    pub finding: Finding<P>,
     pub steps: u64,
 }
 
 /// Returns the places of the calls of a path, and a last one.
-fn places_of<W>(alloc: Global, path: &[Frame<W>], last: usize) -> Result<Vec<usize>, AllocError>
+fn places_of<P>(alloc: Global, path: &[Frame<P>], last: usize) -> Result<Vec<usize>, AllocError>
     ensures { IfOk result (λ places. places.items ≡ places_of path.now ++ last ∷ []) }
 {
     let mut places = Vec::new(alloc);
@@ -52,8 +54,8 @@ fn places_of<W>(alloc: Global, path: &[Frame<W>], last: usize) -> Result<Vec<usi
     Ok(places)
 }
 
-/// Returns the number of the deepest dead world and the number of completed calls with a position
-/// there, after one more world is dead.
+/// Returns the number of the deepest dead point and the number of completed calls with a position
+/// there, after one more point is dead.
 fn best_of(number: usize, placed: u64, best: usize, most: u64) -> (usize, u64)
     ensures best { result ≡ best_of number placed best most }
     ensures within { best ≤ number → result.0 ≤ number }
@@ -65,16 +67,16 @@ fn best_of(number: usize, placed: u64, best: usize, most: u64) -> (usize, u64)
     }
 }
 
-/// Goes back from a dead world.
-fn go_back<W: World + Drop>(ground: &W::Ground, walk: Walk<W>) -> Result<Step<W>, AllocError>
+/// Goes back from a dead point.
+fn go_back<M: Object + Drop>(walk: Walk<Point<M>>) -> Result<Step<Point<M>>, AllocError>
     requires { BestIsWithin walk }
     ensures within { IfOk result StaysWithin }
-    ensures steps { IfOk result (λ step. (start : Configuration W.Of W.Of.Op) (steps : ℕ)
-        → WalksWith W.Of.rules (W.view ground.now) start steps walk []
-        → StepsTo W.Of.rules (W.view ground.now) start (suc steps) step) }
+    ensures steps { IfOk result (λ step. (calls : Calls M.Op) (start : Configuration M M.Op)
+        (steps : ℕ) → WalksWith M.rules (point_views M.rules calls) start steps walk []
+        → StepsTo M.rules (point_views M.rules calls) start (suc steps) step) }
 {
     let Walk {
-        world,
+        point,
         placed,
         next: _,
         mut path,
@@ -83,13 +85,13 @@ fn go_back<W: World + Drop>(ground: &W::Ground, walk: Walk<W>) -> Result<Step<W>
         most,
     } = walk;
     let number = known.len();
-    known.add(ground, world)?;
+    known.add(point)?;
     let (best, most) = best_of(number, placed, best, most);
     let Some(frame) = path.pop() else {
         return Ok(Step::NoOrder(most, known.take(best)));
     };
     Ok(Step::On(Walk {
-        world: frame.world,
+        point: frame.point,
         placed: frame.placed,
         next: frame.next,
         path,
@@ -110,36 +112,35 @@ fn counted(placed: u64, answered: bool) -> Option<u64>
     }
 }
 
-/// Makes the call at a place, which steps to the next world.
-fn go_on<W: World + Drop>(
+/// Makes the call at a place, which steps to the next point.
+fn go_on<M: Object + Drop>(
     alloc: Global,
-    ground: &W::Ground,
-    walk: Walk<W>,
+    calls: &Calls<M::Op>,
+    walk: Walk<Point<M>>,
     place: usize,
-    next: W,
-) -> Result<Step<W>, AllocError>
+    next: Point<M>,
+) -> Result<Step<Point<M>>, AllocError>
     requires walk { BestIsWithin walk }
-    requires place { place < (W.view ground.now).count }
+    requires place { place < length calls.now.lines.items }
     ensures within { IfOk result StaysWithin }
-    ensures steps { IfOk result (λ step. (start : Configuration W.Of W.Of.Op) (steps : ℕ)
-        → TriesPlace W.Of.rules (W.view ground.now) start steps walk place
-        → (W.view ground.now).at next ≡
-        after_call W.Of.rules ((W.view ground.now).at walk.world) ((W.view ground.now).call place)
-        → ((p : ℕ) → (W.view ground.now).made next p ≡
-        ((W.view ground.now).made walk.world p || p == place))
-        → StepsTo W.Of.rules (W.view ground.now) start (suc steps) step) }
+    ensures steps { IfOk result (λ step. (start : Configuration M M.Op) (steps : ℕ)
+        → TriesPlace M.rules (point_views M.rules calls.now) start steps walk place
+        → point_at M.rules calls.now next ≡ after_call M.rules
+        (point_at M.rules calls.now walk.point) ((point_views M.rules calls.now).call place)
+        → ((p : ℕ) → made_of next p ≡ (made_of walk.point p || p == place))
+        → StepsTo M.rules (point_views M.rules calls.now) start (suc steps) step) }
 {
-    if next.is_done(ground) {
+    if next.is_done(calls) {
         return Ok(Step::Found(places_of(alloc, walk.path.as_slice(), place)?));
     }
-    if walk.known.has(ground, &next) {
+    if walk.known.has(&next) {
         return Ok(Step::On(walk));
     }
-    let Some(count) = counted(walk.placed, next.is_completed(ground, place)) else {
+    let Some(count) = counted(walk.placed, is_completed::<M>(calls, place)) else {
         return Err(AllocError);
     };
     let Walk {
-        world,
+        point,
         placed,
         next: others,
         mut path,
@@ -148,13 +149,13 @@ fn go_on<W: World + Drop>(
         most,
     } = walk;
     path.push(Frame {
-        world,
+        point,
         placed,
         place,
         next: others,
     })?;
     Ok(Step::On(Walk {
-        world: next,
+        point: next,
         placed: count,
         next: 0,
         path,
@@ -164,29 +165,29 @@ fn go_on<W: World + Drop>(
     }))
 }
 
-impl<W: World + Drop> Walk<W> {
+impl<M: Object + Drop> Walk<Point<M>> {
     /// Makes one step of the search.
-    fn step(self, alloc: Global, ground: &W::Ground) -> Result<Step<W>, AllocError>
+    fn step(self, alloc: Global, calls: &Calls<M::Op>) -> Result<Step<Point<M>>, AllocError>
         requires { BestIsWithin self }
         ensures within { IfOk result StaysWithin }
-        ensures steps { IfOk result (λ step. (start : Configuration W.Of W.Of.Op) (steps : ℕ)
-            → Walks W.Of.rules (W.view ground.now) start steps self
-            → StepsTo W.Of.rules (W.view ground.now) start (suc steps) step) }
+        ensures steps { IfOk result (λ step. (start : Configuration M M.Op) (steps : ℕ)
+            → Walks M.rules (point_views M.rules calls.now) start steps self
+            → StepsTo M.rules (point_views M.rules calls.now) start (suc steps) step) }
     {
         let mut walk = self;
-        let Some(place) = walk.world.next_try(ground, walk.next) else {
-            return go_back(ground, walk);
+        let Some(place) = walk.point.next_try(calls, walk.next) else {
+            return go_back(walk);
         };
         walk.next = place + 1;
-        match walk.world.after(alloc, ground, place)? {
-            Some(next) => go_on(alloc, ground, walk, place, next),
+        match walk.point.after(alloc, calls, place)? {
+            Some(next) => go_on(alloc, calls, walk, place, next),
             None => Ok(Step::On(walk)),
         }
     }
 }
 
 /// Returns the greatest number of completed calls that had a position.
-fn most_of<W>(walk: &Walk<W>) -> u64
+fn most_of<P>(walk: &Walk<P>) -> u64
     ensures { result ≡ max walk.now.most walk.now.placed }
 {
     if walk.placed <= walk.most {
@@ -196,26 +197,26 @@ fn most_of<W>(walk: &Walk<W>) -> u64
     }
 }
 
-/// Searches for an order of the calls that are left in a world, in at most `steps` steps.
-pub(crate) fn find_order<W: World + Drop, P: Watcher>(
+/// Searches for an order of the calls that are left at a point, in at most `steps` steps.
+pub(crate) fn find_order<M: Object + Drop, P: Watcher>(
     alloc: Global,
-    ground: &W::Ground,
-    start: W,
+    calls: &Calls<M::Op>,
+    start: Point<M>,
     steps: u64,
     watcher: &mut P,
-) -> Result<Found<W>, AllocError>
-    requires { IsWhole ((W.view ground.now).at start).rest }
-    ensures { IfOk result (λ found.
-        FindsIn W.Of.rules (W.view ground.now) ((W.view ground.now).at start) steps found) }
+) -> Result<Found<Point<M>>, AllocError>
+    requires { IsWhole (point_at M.rules calls.now start).rest }
+    ensures { IfOk result (λ found. FindsIn M.rules (point_views M.rules calls.now)
+        (point_at M.rules calls.now start) steps found) }
 {
-    if start.is_done(ground) {
+    if start.is_done(calls) {
         return Ok(Found {
             finding: Finding::Order(Vec::new(alloc)),
             steps: 0,
         });
     }
     let mut walk = Walk {
-        world: start,
+        point: start,
         placed: 0,
         next: 0,
         path: Vec::new(alloc),
@@ -226,14 +227,14 @@ pub(crate) fn find_order<W: World + Drop, P: Watcher>(
     'walk: for made in 0..steps {
         watcher.tell(walk.placed, made);
         let steps = made + 1;
-        match walk.step(alloc, ground)? {
+        match walk.step(alloc, calls)? {
             Step::On(next) => walk = next,
             Step::Found(places) => {
                 let finding = Finding::Order(places);
                 return Ok(Found { finding, steps });
             }
-            Step::NoOrder(most, world) => {
-                let finding = Finding::NoOrder(most, world);
+            Step::NoOrder(most, point) => {
+                let finding = Finding::NoOrder(most, point);
                 return Ok(Found { finding, steps });
             }
         }

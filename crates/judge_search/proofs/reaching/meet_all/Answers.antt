@@ -8,18 +8,19 @@ use Rattle.judge_search.proofs.reaching.meet_all.Goals as goal
 pub points-init : goal.points-init
 points-init g c = record {
   all = sym c.into_iter-point-iterator.ensures.into_iter_gives.0;
-  adds = adds_none (point_at g.M.Object.rules c.args.calls.now) c.args.known.now.worlds.items;
+  adds = λ calls. adds_none (point_at g.M.Object.rules calls) c.args.known.now.points.items;
 }
 
 pub points-preserved : goal.points-preserved
 points-preserved g c = record {
   all = one_on _ _ _ _ _ c.points.invariant.all c.in-Some.ensures.steps.0;
-  adds = adds_more (point_at g.M.Object.rules c.args.calls.now) c.points.yielded c.in-Some.point _ _ _
-      c.points.invariant.adds c.in_ok-meet.ensures;
+  adds = λ calls. adds_more (point_at g.M.Object.rules calls) c.points.yielded c.in-Some.point _ _ _
+      (c.points.invariant.adds calls) (c.in_ok-meet.ensures calls);
 }
 
 pub returns : goal.returns
-returns g c =
-    subst (λ points. AddsNew (point_at g.M.Object.rules c.args.calls.now) points c.args.known.now.worlds.items
-    c.points.known.worlds.items)
-    (all_met _ _ c.points.point-iterator c.points.invariant.all c.in-None.ensures.steps.0) c.points.invariant.adds
+returns g c = λ calls.
+    subst (λ points. AddsNew (point_at g.M.Object.rules calls) points c.args.known.now.points.items
+    c.points.known.points.items)
+    (all_met _ _ c.points.point-iterator c.points.invariant.all c.in-None.ensures.steps.0)
+    (c.points.invariant.adds calls)

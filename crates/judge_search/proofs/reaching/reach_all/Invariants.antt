@@ -4,4 +4,4 @@ use Rattle.judge_search.proofs.reaching.reach_all.Given as goal
 
 abbrev pub invariant-points : goal.invariant-points
 invariant-points g l = Reaches (g.M.Object.rules) (point_at (g.M.Object.rules) l.fn.calls)
-    (point_at (g.M.Object.rules) l.fn.calls l.fn.start) l.number l.known.worlds.items
+    (point_at (g.M.Object.rules) l.fn.calls l.fn.start) l.number l.known.points.items

@@ -2,7 +2,7 @@ use Rattle.std.proofs.Common.{◌≡◌, sym, ap, ◌∙◌, refl, get_or}
 use Rattle.judge_object.specs.Call.{Call}
 use Rattle.judge_object.specs.declared.line.Line.{Line}
 use Rattle.judge_search.proofs.Sorted.{call_here}
-use Rattle.judge_search.proofs.point.PointWorld.after.Goals as goal
+use Rattle.judge_search.proofs.point.Point.after.Goals as goal
 
 pub returns : goal.returns
 returns g c =

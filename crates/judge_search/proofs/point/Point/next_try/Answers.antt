@@ -2,7 +2,7 @@ use Rattle.std.proofs.Common.{subst}
 use Rattle.judge_search.specs.Marks.{is_made}
 use Rattle.judge_search.specs.Calls.{calls_of, TellsTry}
 use Rattle.judge_search.proofs.Points.{told_next}
-use Rattle.judge_search.proofs.point.PointWorld.next_try.Goals as goal
+use Rattle.judge_search.proofs.point.Point.next_try.Goals as goal
 
 pub returns : goal.returns
 returns g c =
