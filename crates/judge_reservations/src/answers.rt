@@ -97,6 +97,15 @@ fn leave_part(
     )
 }
 
+/// Returns the part of a completed bill on a scope: the bill with the text of its reply, or
+/// nothing.
+fn bill_part<'a>(scope: &Scope, id: u32, text: &'a [u8]) -> Option<Seen<'a>>
+    ensures { spec.answered result ≡ spec.bill_part scope.now id text.now }
+{
+    let is_kept = scope.has_customer(id) && keeps_bill(scope, id, text);
+    kept_if(is_kept, Command::Bill { id }, text)
+}
+
 /// Returns the part of a completed command on a scope: a command with the text of its reply, or
 /// nothing.
 fn command_part<'a>(scope: &Scope, command: Command, text: &'a [u8]) -> Option<Seen<'a>>
@@ -130,13 +139,7 @@ fn command_part<'a>(scope: &Scope, command: Command, text: &'a [u8]) -> Option<S
         Command::DropCustomer { id } => kept_if(scope.has_customer(id), command, text),
         Command::Free { kind, id } => kept_if(scope.is_closed(kind, id), command, text),
         Command::Price { kind, id } => kept_if(scope.has_item(kind, id), command, text),
-        Command::Bill { id } => {
-            kept_if(
-                scope.has_customer(id) && keeps_bill(scope, id, text),
-                command,
-                text,
-            )
-        }
+        Command::Bill { id } => bill_part(scope, id, text),
         Command::Reserve {
             customer,
             kind,
