@@ -17,6 +17,7 @@ use Rattle.load_run.specs.Made.{AreMade, AreLeft}
 use Rattle.load_run.specs.Several.{AllKept, one_kept}
 use Rattle.load_run.specs.Load.{HaveRead}
 use Rattle.load_run.specs.Streams.{KeptBySeed}
+use Rattle.cli_main.specs.declared.stats.LoadSummary.{LoadSummary}
 use Rattle.cli_main.specs.Load.{calls_in, calls_kept, IsEmpty, HasAllAttempts, AreNoted}
 
 -- what keepers keep
@@ -46,12 +47,15 @@ module _ {X : Type 0} (notes : X → RecorderContents) where
       record {
         first = k.first;
         last = k.last;
+        from = (notes before).latest;
+        to = (notes after).latest;
         records = records;
         aborts = aborts;
         read = read;
         made = o.made;
         number = o.number;
-        are_made = subst (λ (l : List CompletedCall). AreMade k.first k.last l records aborts o.made)
+        are_made = subst (λ (l : List CompletedCall). AreMade k.first k.last (notes before).latest
+            (notes after).latest l records aborts o.made)
             (sym (its_calls attempts records aborts before after empty k)) o.are_made;
         are_left = subst (λ (l : List Trace). AreLeft o.made l) (sym same) o.are_left;
       }
@@ -80,18 +84,19 @@ module _ {X : Type 0} (notes : X → RecorderContents) where
             rest.1,
       )
 
-  pub noted : (s : Settings) (load : LoadReport) (n : ℕ) (before after : Recorders X) → IsEmpty (notes before.opening) →
+  pub noted : (s : Settings) (n : LoadSummary) (before after : Recorders X) → IsEmpty (notes before.opening) →
       All (λ x. IsEmpty (notes x)) before.clients.items
-      → KeptBySeed notes s load.outcomes load.report n before after → AreNoted notes s after
-  noted s load n before after opening clients k =
+      → KeptBySeed notes s n.report.outcomes n.report.report n.statistics.attempts before after
+      → AreNoted notes s n after
+  noted s n before after opening clients k =
       let image = k.loaded.image in
       let history = k.loaded.history in
       let others = all_noted image history (λ x. x.attempts) (λ x. x.records) (λ x. x.aborts) k.loaded.shares
       before.clients.items after.clients.items clients k.clients_read k.clients_kept in
       record {
         calls = record {
-          load = load;
           loaded = k.loaded;
+          attempts_add_up = k.made;
           of_opening = are_noted k.setup_attempts k.loaded.opened k.opening_aborts before.opening after.opening opening
               k.opening_kept;
           of_clients = others.0;

@@ -20,7 +20,7 @@ use Rattle.load_tasks.specs.declared.settings.Settings.{Settings}
 use Rattle.load_tasks.specs.Setting.{is_settings}
 use Rattle.vac_manager.specs.declared.note.CompletedCall.{CompletedCall}
 use Rattle.vac_manager.specs.declared.note.TracedAttempt.{TracedAttempt}
-use Rattle.vac_manager.specs.Tracing.{Trace, trace_of}
+use Rattle.vac_manager.specs.Tracing.{Trace, trace_of, AreMadeInTurn}
 use Rattle.stm_core.specs.History.{Sub, done, keep, skip, image_upto}
 use Rattle.load_run.specs.Lists.{Paired, none, both}
 use Rattle.load_run.specs.Made.{ReadsOneImageIfAborted, IsTraceOfListed, committed_in, aborted_in, AreAscending}
@@ -36,15 +36,19 @@ use Rattle.load_record.specs.Text.{WroteAttempts, WroteAttemptsPrefix, AreTooLon
 use Rattle.load_record.specs.Loads.{MadeHistory}
 use Rattle.load_record.proofs.Made.{made_their_history}
 use Rattle.load_record.specs.InPlace.{ReadsAtItsPlace, AbortedReadAtTheirPlaces}
+use Rattle.load_record.specs.InTurn.{MadeInTurn, EachMadeInTurn}
 use Rattle.load_record.proofs.AtPlaces.{judged_by_times}
+use Rattle.load_record.proofs.InTurn.{judged_by_precedence}
 use Rattle.load_run.specs.declared.load.LoadFault.TheVariants as load
 use Rattle.load_run.specs.declared.load.LoadFault.{LoadFault}
 use Rattle.cli_main.specs.Ending.{long_attempt_line}
+use Rattle.cli_main.specs.declared.stats.LoadSummary.{LoadSummary}
 use Rattle.cli_main.specs.Load.{HasNoted, WroteLoadAttempts, WroteLoadAttemptsInPart, HasLongAttempt}
 use Rattle.cli_main.specs.Load.{AreAllTraces, GivenUpReadOneImage, IsWholePage}
 use Rattle.vac_manager.specs.Keeping.{IsNoted}
 use Rattle.cli_main.proofs.LoadEnds.{few_blocks, both_first, both_second}
 use Rattle.cli_main.proofs.Recorded.{made_history}
+use Rattle.cli_main.proofs.InTurn.{times_of, turns_of, places_of, commit_all, parted_by}
 
 -- the calls that a ledger keeps
 abbrev journal_calls : {W : Type 0} → AttemptRecorder W → List CompletedCall
@@ -233,13 +237,20 @@ module _ {W : Type 0} (image : List ℕ) (history : List Record) (attempts : ℕ
       ledger.trail.accesses.is_whole whole) in
       let firsts = noted_attempts calls (committed_in k.made) noted k.are_made.of_calls in
       let all = together (parts k.made) (attempts_of calls) given firsts its_aborted in
+      let own = parted_by all.each (commit_all (attempts_of calls) k.made firsts) ledger.trail.aborted in
+      let turns : AreMadeInTurn k.from (map trace_of all.all) k.to =
+      subst (λ (l : List Trace). AreMadeInTurn k.from l k.to) (sym all.same) k.are_made.turns in
+      let ascending : AreAscending k.first (map trace_of all.all) k.last =
+      subst (λ (l : List Trace). AreAscending k.first l k.last) (sym all.same) k.are_made.ascending in
       record {
-        made = all.all;
+        in_turn = record {
+          attempts = all.all;
+          own = record { committed = own.0; aborted = own.1 };
+          times = times_of k.from k.to all.all turns;
+          turns = turns_of k.from k.to all.all turns;
+          positions = places_of k.first k.last all.all ascending;
+        };
         number = sym (length-map all.all trace_of) ∙ (ap (λ (l : List Trace). length l) all.same ∙ k.number);
-        each_once = all.each;
-        first = k.first;
-        last = k.last;
-        ascending = subst (λ (l : List Trace). AreAscending k.first l k.last) (sym all.same) k.are_made.ascending;
       }
 
 module _ {X W : Type 0} (image : List ℕ) (history : List Record) (attempts_of_share : X → ℕ) where
@@ -280,14 +291,26 @@ module _ {X W : Type 0} (image : List ℕ) (history : List Record) (attempts_of_
   pages_read [] (x ∷ xs) whole hs = elim hs [ ]
   pages_read (ledger ∷ ledgers) [] whole hs = elim hs [ ]
 
+-- each of whole pages was made in turn
+pages_in_turn : {X : Type 0} (attempts_of_share : X → ℕ) (pages : List Page) (xs : List X) →
+    Paired (λ page x. IsWholePage (attempts_of_share x) page) pages xs → EachMadeInTurn pages
+pages_in_turn attempts_of_share [] [] none page i = absurd (nothing_in page i)
+pages_in_turn attempts_of_share (p ∷ pages) (x ∷ xs) (both h hs) page i = elim (in_cons p page pages i) [
+  | inl e ↦ subst MadeInTurn e h.in_turn
+  | inr j ↦ pages_in_turn attempts_of_share pages xs hs page j
+]
+pages_in_turn attempts_of_share [] (x ∷ xs) hs page i = elim hs [ ]
+pages_in_turn attempts_of_share (p ∷ pages) [] hs page i = elim hs [ ]
+
 -- ---- loads
 
-module _ {W : Type 0} (s : Settings) (opening : AttemptRecorder W) (clients : List (AttemptRecorder W))
-    (fits : is_settings s ≡ true) (has : HasNoted s (journal_calls opening) (map journal_calls clients)) where
-  has_pages : HasNoted s (page_of opening).calls (map (λ page. page.calls) (map page_of clients))
+module _ {W : Type 0} (s : Settings) (n : LoadSummary) (opening : AttemptRecorder W)
+    (clients : List (AttemptRecorder W))
+    (fits : is_settings s ≡ true) (has : HasNoted s n (journal_calls opening) (map journal_calls clients)) where
+  has_pages : HasNoted s n (page_of opening).calls (map (λ page. page.calls) (map page_of clients))
   has_pages = record {
-    load = has.load;
     loaded = has.loaded;
+    attempts_add_up = has.attempts_add_up;
     of_opening = has.of_opening;
     of_clients = subst (λ (l : List (List CompletedCall)). Paired (λ notes x. Paired IsNoted notes x.records) l
         has.loaded.shares) (sym (same_pages clients)) has.of_clients;
@@ -312,13 +335,13 @@ module _ {W : Type 0} (s : Settings) (opening : AttemptRecorder W) (clients : Li
   others_whole whole = both_second (is_whole_ledger opening) (list_all is_whole_ledger clients) whole
 
   abbrev HasAll : ℕ → AttemptRecorder W → Type 0
-  HasAll n ledger = LedgerHasAll has.loaded.image has.loaded.history n ledger
+  HasAll k ledger = LedgerHasAll has.loaded.image has.loaded.history k ledger
 
-  aborted : are_whole_ledgers opening clients ≡ true → (n : ℕ) → HasAll n opening →
+  aborted : are_whole_ledgers opening clients ≡ true → (k : ℕ) → HasAll k opening →
       Paired (λ ledger x. HasAll x.attempts ledger) clients has.loaded.shares →
       All GivenUpReadOneImage (pages_of opening clients)
-  aborted whole n first others = All-cons GivenUpReadOneImage (page_of opening) (map page_of clients)
-      (page_aborted has.loaded.image has.loaded.history n opening (opening_whole whole) first)
+  aborted whole k first others = All-cons GivenUpReadOneImage (page_of opening) (map page_of clients)
+      (page_aborted has.loaded.image has.loaded.history k opening (opening_whole whole) first)
       (pages_aborted has.loaded.image has.loaded.history (λ x. x.attempts) clients has.loaded.shares
       (others_whole whole) others)
 
@@ -329,31 +352,42 @@ module _ {W : Type 0} (s : Settings) (opening : AttemptRecorder W) (clients : Li
   clients_whole whole others = pages_whole has.loaded.image has.loaded.history
       (λ x. x.attempts) clients has.loaded.shares (others_whole whole) others
 
+  -- each client made its attempts in turn
+  each_in_turn : are_whole_ledgers opening clients ≡ true → (k : ℕ) → HasAll k opening →
+      Paired (λ ledger x. HasAll x.attempts ledger) clients has.loaded.shares →
+      EachMadeInTurn (pages_of opening clients)
+  each_in_turn whole k first others page i = elim (in_cons (page_of opening) page (map page_of clients) i) [
+    | inl e ↦ subst MadeInTurn e
+        (page_whole has.loaded.image has.loaded.history k opening (opening_whole whole) first).in_turn
+    | inr j ↦ pages_in_turn (λ x. x.attempts) (map page_of clients) has_pages.loaded.shares
+        (clients_whole whole others) page j
+  ]
+
   -- the aborted attempts read the words of the history
-  read : are_whole_ledgers opening clients ≡ true → (n : ℕ) → HasAll n opening →
+  read : are_whole_ledgers opening clients ≡ true → (k : ℕ) → HasAll k opening →
       Paired (λ ledger x. HasAll x.attempts ledger) clients has.loaded.shares →
       AbortedReadAtTheirPlaces made.image made.history (pages_of opening clients)
   unfolding made has_pages made_history
-  read whole n first others = λ page i.
+  read whole k first others = λ page i.
       let image = has.loaded.image in
       let history = has.loaded.history in
       elim (in_cons (page_of opening) page (map page_of clients) i) [
         | inl e ↦ subst (λ (p : Page). AllReadPlaces image history p.given_up) e
-            (page_read image history n opening (opening_whole whole) first)
+            (page_read image history k opening (opening_whole whole) first)
         | inr j ↦ pages_read image history (λ x. x.attempts) clients has.loaded.shares
             (others_whole whole) others page j
       ]
 
   -- the attempts were written whole
-  pub wrote_tried : (held holds : Option (List ℕ)) → are_whole_ledgers opening clients ≡ true → (n : ℕ) →
-      HasAll n opening → Paired (λ ledger x. HasAll x.attempts ledger) clients has.loaded.shares →
+  pub wrote_tried : (held holds : Option (List ℕ)) → are_whole_ledgers opening clients ≡ true → (k : ℕ) →
+      HasAll k opening → Paired (λ ledger x. HasAll x.attempts ledger) clients has.loaded.shares →
       WroteAttempts s.blocks (pages_of opening clients) held holds →
-      WroteLoadAttempts s held holds
-  wrote_tried held holds whole n first others wrote =
+      WroteLoadAttempts s n held holds
+  wrote_tried held holds whole k first others wrote =
       let few = few_blocks s fits in
       let pages = pages_of opening clients in
       let judged = judged_by_times s.blocks pages wrote.all few wrote.attempts wrote.fits made
-      (read whole n first others) in
+      (read whole k first others) in
       record {
         opening = page_of opening;
         clients = map page_of clients;
@@ -363,36 +397,37 @@ module _ {W : Type 0} (s : Settings) (opening : AttemptRecorder W) (clients : Li
         same_image = same_image;
         same_history = same_history;
         history = made_their_history s.blocks pages wrote.all few wrote.attempts made;
-        read = read whole n first others;
+        read = read whole k first others;
         legal = judged.0;
-        judged = judged.1;
-        aborted = aborted whole n first others;
-        setup_attempts = n;
-        of_opening = page_whole has.loaded.image has.loaded.history n opening (opening_whole whole) first;
+        judged = judged_by_precedence s.blocks pages wrote.all few wrote.attempts wrote.fits made
+            (read whole k first others) (each_in_turn whole k first others);
+        aborted = aborted whole k first others;
+        setup_attempts = k;
+        of_opening = page_whole has.loaded.image has.loaded.history k opening (opening_whole whole) first;
         of_clients = clients_whole whole others;
       }
 
   -- a prefix of them was written
-  pub wrote_tried_in_part : (held holds : Option (List ℕ)) → are_whole_ledgers opening clients ≡ true → (n : ℕ) →
-      HasAll n opening → Paired (λ ledger x. HasAll x.attempts ledger) clients has.loaded.shares →
-      WroteAttemptsPrefix s.blocks (pages_of opening clients) held holds → WroteLoadAttemptsInPart s held holds
-  wrote_tried_in_part held holds whole n first others wrote = record {
+  pub wrote_tried_in_part : (held holds : Option (List ℕ)) → are_whole_ledgers opening clients ≡ true → (k : ℕ) →
+      HasAll k opening → Paired (λ ledger x. HasAll x.attempts ledger) clients has.loaded.shares →
+      WroteAttemptsPrefix s.blocks (pages_of opening clients) held holds → WroteLoadAttemptsInPart s n held holds
+  wrote_tried_in_part held holds whole k first others wrote = record {
     opening = page_of opening;
     clients = map page_of clients;
     noted = has_pages;
     written = wrote;
     made = made;
-    read = read whole n first others;
-    aborted = aborted whole n first others;
-    setup_attempts = n;
-    of_opening = page_whole has.loaded.image has.loaded.history n opening (opening_whole whole) first;
+    read = read whole k first others;
+    aborted = aborted whole k first others;
+    setup_attempts = k;
+    of_opening = page_whole has.loaded.image has.loaded.history k opening (opening_whole whole) first;
     of_clients = clients_whole whole others;
   }
 
   -- none of them was written
   pub has_long : (held middle holds : Option (List ℕ)) → middle ≡ held →
       AreTooLong s.blocks (pages_of opening clients) → AppendsPrefix middle holds long_attempt_line →
-      HasLongAttempt s held holds
+      HasLongAttempt s n held holds
   has_long held middle holds same long line = record {
     opening = page_of opening;
     clients = map page_of clients;

@@ -23,6 +23,7 @@ use Rattle.load_run.specs.Lists.{Paired, none, both}
 use Rattle.load_run.specs.Looping.{AreOfTasks}
 use Rattle.load_run.specs.Opening.{as_tasks}
 use Rattle.load_run.specs.Load.{Share, HasShare}
+use Rattle.cli_main.specs.declared.stats.LoadSummary.{LoadSummary}
 use Rattle.cli_main.specs.Load.{HasNoted}
 
 -- a call of this task has its line
@@ -74,9 +75,10 @@ module _ (s : Settings) (drawn : AreReadBack s) where
   clients_lines (notes ∷ clients) (x ∷ shares) [] hs gs place = elim gs [ ]
   clients_lines (notes ∷ clients) [] pairs hs gs place = elim hs [ ]
 
-pub each_has_lines : (s : Settings) (opening : List CompletedCall) (clients : List (List CompletedCall)) →
+pub each_has_lines : {n : LoadSummary} (s : Settings) (opening : List CompletedCall)
+    (clients : List (List CompletedCall)) →
     is_settings s ≡ true →
-    HasNoted s opening clients → EachHasLines (opening ∷ clients)
+    HasNoted s n opening clients → EachHasLines (opening ∷ clients)
 each_has_lines s opening clients fits h = go
   where
     drawn : AreReadBack s

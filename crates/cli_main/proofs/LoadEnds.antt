@@ -1,6 +1,6 @@
 -- How a load ends.
 use Rattle.std.proofs.Common.{◌≡◌, ◌≤◌, ◌↔◌, ◌&&◌, ◌⊎◌, inl, inr, refl, ℕ, zero, suc, Bool, true, false, List, Option}
-use Rattle.std.proofs.Common.{map, arith, sym, subst}
+use Rattle.std.proofs.Common.{map, arith, not, sym, subst}
 use Rattle.std.specs.Prelude.{Result, Ok, Err, OnOk, OnErr, IfErr}
 use Rattle.std.proofs.lemmas.Bool.Decides.{nat_tests}
 use Rattle.load_tasks.specs.declared.settings.Settings.{Settings}
@@ -16,16 +16,21 @@ use Rattle.load_record.proofs.Legality.{texts_up_to_precedence}
 use Rattle.judge_calls.specs.CallText.{IsTheirHistory}
 use Rattle.load_run.specs.declared.load.LoadFault.{LoadFault}
 use Rattle.load_run.specs.declared.load.LoadFault.TheVariants as load
-use Rattle.load_run.specs.declared.load.LoadReport.{LoadReport}
+use Rattle.load_run.specs.Attempted.{AreStatistics}
+use Rattle.load_run.specs.Several.{sum_of}
 use Rattle.load_run.specs.Streams.{LoadedBySeed}
 use Rattle.vac_lines.specs.declared.stream_fault.StreamFault.{StreamFault}
 use Rattle.vac_lines.specs.declared.stream_fault.StreamFault.TheVariants as stream
 use Rattle.std.specs.Io.KnownBytes.{Appends}
 use Rattle.vac_lines.specs.Writing.{AppendsPrefix}
 use Rattle.cli_main.specs.Ending.{load_fault_line, fault_line, CanStopWriting, EndsDone, EndsWithStatus}
-use Rattle.cli_main.specs.Load.{load_text, NamedFault, EndsLoad, StoppedKept, HasNoted, IsFaultBySeed}
-use Rattle.cli_main.specs.Load.{WroteCalls, WroteCallsInPart}
-use Rattle.cli_main.specs.Program.{Loads}
+use Rattle.cli_options.specs.declared.asked.LoadOutput.{LoadOutput}
+use Rattle.cli_main.specs.declared.stats.LoadSummary.{LoadSummary}
+use Rattle.cli_main.specs.Statistics.{load_text, summary_text}
+use Rattle.cli_main.specs.Load.{EndsLoad, StoppedKept, HasNoted, IsFaultBySeed, WritesNothingUnlessProgress}
+use Rattle.cli_main.specs.Load.{WritesPrefixUnlessProgress}
+use Rattle.cli_main.specs.Load.{LoadWriting}
+use Rattle.cli_main.specs.Load.{WroteCalls, WroteCallsInPart, WroteLoad, WroteLoadInPart}
 use Rattle.cli_main.proofs.Turning.{each_ordered, each_in_turn}
 use Rattle.cli_main.proofs.Recorded.{load_legal}
 use Rattle.cli_main.proofs.Lines.{each_has_lines}
@@ -45,73 +50,92 @@ not_arguments e = absurd cc
 memory_by_seed : (s : Settings) → IsFaultBySeed s load.Memory
 memory_by_seed s = inr (stream_of s.seed 0, inl refl)
 
-named_memory : (s : Settings) (held holds : Option (List ℕ)) →
-    AppendsPrefix held holds (load_fault_line load.Memory) → NamedFault s held holds
-named_memory s held holds line = (load.Memory, not_arguments, memory_by_seed s, line)
-
 pub one_of : (status : ℕ) → 1 ≤ status → status ≤ 2 → (status ≡ 2 → ⊥) → status ≡ 1
 one_of status low high is_not = omega (arith, low, high, is_not)
 
 -- how a load ends whose settings fit each other
-module _ (wrote stopped : Settings → Option (List ℕ) → Option (List ℕ) → Type 0) (s : Settings)
-    (fits : is_settings s ≡ true) where
+module _ (wrote stopped : LoadWriting) (how : LoadOutput) (s : Settings) (fits : is_settings s ≡ true) where
   -- by a fault
-  pub ended_by_fault : (fault : LoadFault) (status : ℕ) (held holds : Option (List ℕ)) →
+  pub ended_by_fault : (fault : LoadFault) (status : ℕ) (held holds told tells : Option (List ℕ)) →
       (fault ≡ load.Arguments → ⊥) → IsFaultBySeed s fault → 1 ≤ status → status ≤ 2
       → ((status ≡ 2) ↔ (fault ≡ load.Arguments)) → AppendsPrefix held holds (load_fault_line fault) →
-      EndsLoad wrote stopped status s held holds
-  ended_by_fault fault status held holds is_not why low high refused line = inl (
+      WritesNothingUnlessProgress how.progress told tells → EndsLoad wrote stopped how status s held holds told tells
+  ended_by_fault fault status held holds told tells is_not why low high refused line silent = inl (
     fits,
     inr (
       one_of status low high (λ two. is_not (refused.0 two)),
-      inl (fault, is_not, why, line),
+      inl ((fault, is_not, why, line), silent),
     ),
   )
 
   -- for want of memory
-  pub ended_for_memory : (status : ℕ) (held holds : Option (List ℕ)) → 1 ≤ status → status ≤ 2
+  pub ended_for_memory : (status : ℕ) (held holds told tells : Option (List ℕ)) → 1 ≤ status → status ≤ 2
       → ((status ≡ 2) ↔ (load.Memory ≡ load.Arguments)) →
-      AppendsPrefix held holds (load_fault_line load.Memory) → EndsLoad wrote stopped status s held holds
-  ended_for_memory status held holds low high refused line =
-      ended_by_fault load.Memory status held holds not_arguments (memory_by_seed s) low high refused line
+      AppendsPrefix held holds (load_fault_line load.Memory) → WritesNothingUnlessProgress how.progress told tells →
+      EndsLoad wrote stopped how status s held holds told tells
+  ended_for_memory status held holds told tells low high refused line silent =
+      ended_by_fault load.Memory status held holds told tells not_arguments (memory_by_seed s) low high refused line
+      silent
+
+  -- after its calls were written or not
+  pub ended_kept : (n : LoadSummary) (status : ℕ) (held holds told tells : Option (List ℕ)) →
+      AreStatistics s.tries n.report.outcomes n.statistics →
+      WritesPrefixUnlessProgress how.progress (summary_text how n) told tells →
+      EndsWithStatus status (wrote s n held holds) (stopped s n held holds) →
+      EndsLoad wrote stopped how status s held holds told tells
+  ended_kept n status held holds told tells fit end (inl done) =
+      inl (fits, inl (done.0, record { summary = n; fit = fit; wrote = done.1; lines = end }))
+  ended_kept n status held holds told tells fit end (inr k) =
+      inl (fits, inr (k.0, inr (record { summary = n; fit = fit; wrote = k.1; lines = end })))
+
+-- where nothing is written, no standard error changes
+pub silent_from : (progress : Bool) (told tells : Option (List ℕ)) → tells ≡ told →
+    WritesNothingUnlessProgress progress told tells
+silent_from true told tells same = tt
+silent_from false told tells same = same
+
+-- where progress is reported, nothing is said
+pub silent_if : (progress : Bool) (told tells : Option (List ℕ)) → not progress ≡ false →
+    WritesNothingUnlessProgress progress told tells
+silent_if true told tells is = tt
+silent_if false told tells is = absurd (let n : true ≡ false = is in cc)
+
+-- the lines about the end come behind what was there, unless progress lines did
+pub told_behind : (progress : Bool) (text : List ℕ) (told middle tells : Option (List ℕ)) →
+    WritesNothingUnlessProgress progress told middle → AppendsPrefix middle tells text →
+    WritesPrefixUnlessProgress progress text told tells
+told_behind true text told middle tells silent line = tt
+told_behind false text told middle tells silent line =
+    subst (λ (o : Option (List ℕ)). AppendsPrefix o tells text) silent line
 
 -- calls were written, in whole or in part, and then the program ended
-pub ended_writing : (wrote in_part : Settings → Option (List ℕ) → Option (List ℕ) → Type 0) (s : Settings)
+pub ended_writing : (wrote in_part : LoadWriting) (s : Settings) (n : LoadSummary)
     {T : Type 0} (r : Result T StreamFault) (status : ℕ) (held middle holds : Option (List ℕ)) →
-    OnOk r (wrote s held middle) → OnErr r (in_part s held middle) → IfErr r CanStopWriting →
+    OnOk r (wrote s n held middle) → OnErr r (in_part s n held middle) → IfErr r CanStopWriting →
     EndsDone r status middle holds →
-    EndsWithStatus status (wrote s held holds) (StoppedKept in_part s held holds)
-ended_writing wrote in_part s (Ok t) status held middle holds ok err can e =
-    inl (e.0, subst (wrote s held) (sym e.1) ok)
-ended_writing wrote in_part s (Err fault) status held middle holds ok err can e =
+    EndsWithStatus status (wrote s n held holds) (StoppedKept in_part s n held holds)
+ended_writing wrote in_part s n (Ok t) status held middle holds ok err can e =
+    inl (e.0, subst (wrote s n held) (sym e.1) ok)
+ended_writing wrote in_part s n (Err fault) status held middle holds ok err can e =
     inr (e.0, (middle, err, (fault, can, e.1)))
 
--- the calls of a load whose settings fit each other were written or not, and then it ended
-pub ended_kept : (wrote stopped : Settings → Option (List ℕ) → Option (List ℕ) → Type 0) (s : Settings) (status : ℕ)
-    (held holds : Option (List ℕ)) → is_settings s ≡ true →
-    EndsWithStatus status (wrote s held holds) (stopped s held holds) → EndsLoad wrote stopped status s held holds
-ended_kept wrote stopped s status held holds fits (inl done) = inl (fits, inl done)
-ended_kept wrote stopped s status held holds fits (inr k) = inl (fits, inr (k.0, inr k.1))
-
 -- the load was run to its end, and its two lines were written, in whole or in part, or memory was refused for them
-pub ended_with_lines : (s : Settings) (load : LoadReport) (status : ℕ) (held holds : Option (List ℕ)) →
-    is_settings s ≡ true → LoadedBySeed s load.outcomes load.report → status ≤ 1 →
-    (status ≡ 0 → Appends held holds (load_text load))
-    → (status ≡ 1 → AppendsPrefix held holds (fault_line stream.Memory) ⊎ AppendsPrefix held holds (load_text load)) →
-    Loads false status s held holds
-ended_with_lines s load zero held holds fits loaded low done stopped =
-    inl (fits, inl (refl, record { load = load; loaded = loaded; written = done refl }))
-ended_with_lines s load (suc zero) held holds fits loaded low done stopped =
-    elim (stopped refl) [
-      | inl line ↦ inl (fits, inr (refl, inl (named_memory s held holds line)))
-      | inr part ↦ inl (fits, inr (refl, inr (record { load = load; loaded = loaded; written = part })))
-    ]
-ended_with_lines s load (suc (suc n)) held holds fits loaded low done stopped = absurd (omega (arith, low))
+pub written_lines : (s : Settings) (n : LoadSummary) (status : ℕ) (held holds : Option (List ℕ)) →
+    (loaded : LoadedBySeed s n.report.outcomes n.report.report) →
+    n.statistics.attempts ≡ sum_of (λ x. x.attempts) loaded.shares → status ≤ 1 →
+    (status ≡ 0 → Appends held holds (load_text n.report))
+    → (status ≡ 1 → AppendsPrefix held holds (fault_line stream.Memory) ⊎ AppendsPrefix held holds (load_text n.report))
+    → EndsWithStatus status (WroteLoad s n held holds) (WroteLoadInPart s n held holds)
+written_lines s n zero held holds loaded made low done stopped =
+    inl (refl, record { loaded = loaded; attempts_add_up = made; written = done refl })
+written_lines s n (suc zero) held holds loaded made low done stopped =
+    inr (refl, record { loaded = loaded; attempts_add_up = made; written = stopped refl })
+written_lines s n (suc (suc k)) held holds loaded made low done stopped = absurd (omega (arith, low))
 
 -- the calls of journals that were written in one order
-module _ {C : Type 0} (s : Settings) (opening : CallRecorder C) (clients : List (CallRecorder C))
+module _ {C : Type 0} (s : Settings) (n : LoadSummary) (opening : CallRecorder C) (clients : List (CallRecorder C))
     (fits : is_settings s ≡ true)
-    (has : HasNoted s (notes_of opening) (map notes_of clients)) where
+    (has : HasNoted s n (notes_of opening) (map notes_of clients)) where
   in_order : (all : List Entry) → IsMerged (kept_by opening clients) all → AreOrdered (map (λ e. e.note) all)
   in_order all merged = merged.ordered (each_ordered s opening clients has)
 
@@ -131,7 +155,7 @@ module _ {C : Type 0} (s : Settings) (opening : CallRecorder C) (clients : List 
 
   -- the history was written whole
   pub wrote_calls : (held holds : Option (List ℕ)) → WroteHistory (kept_by opening clients) held holds →
-      WroteCalls s held holds
+      WroteCalls s n held holds
   wrote_calls held holds wrote = record {
     opening = notes_of opening;
     clients = map notes_of clients;
@@ -146,7 +170,7 @@ module _ {C : Type 0} (s : Settings) (opening : CallRecorder C) (clients : List 
 
   -- a prefix of it was written
   pub wrote_calls_in_part : (held holds : Option (List ℕ)) → WroteHistoryPrefix (kept_by opening clients) held holds →
-      WroteCallsInPart s held holds
+      WroteCallsInPart s n held holds
   wrote_calls_in_part held holds wrote = record {
     opening = notes_of opening;
     clients = map notes_of clients;

@@ -14,6 +14,7 @@ use Rattle.load_record.proofs.Legality.{ordered_calls_legal}
 use Rattle.load_run.specs.Lists.{Paired, none, both}
 use Rattle.load_run.specs.Several.{Interleaved, no_more, of_first, of_second}
 use Rattle.load_run.specs.Load.{InterleavedAll}
+use Rattle.cli_main.specs.declared.stats.LoadSummary.{LoadSummary}
 use Rattle.cli_main.specs.Load.{HasNoted}
 
 -- the calls are those of the records at their places
@@ -182,8 +183,9 @@ calls_of lists (e ∷ all) records history h pairs once =
 
 -- ---- the whole load
 
-recorded : (s : Settings) (opening : List CompletedCall) (clients : List (List CompletedCall)) (all : List Entry)
-    (h : HasNoted s opening clients) → IsMerged (opening ∷ clients) all → AreRecorded s.blocks all h.loaded.last
+recorded : {n : LoadSummary} (s : Settings) (opening : List CompletedCall) (clients : List (List CompletedCall))
+    (all : List Entry)
+    (h : HasNoted s n opening clients) → IsMerged (opening ∷ clients) all → AreRecorded s.blocks all h.loaded.last
 recorded s opening clients all h merged =
     let l = h.loaded in
     let shares : List (List Record) = map (λ x. x.records) l.shares in
@@ -202,8 +204,9 @@ recorded s opening clients all h merged =
           (l.opened ++ l.rest) merged.each_once pairs once);
     }
 
-pub load_legal : (s : Settings) (opening : List CompletedCall) (clients : List (List CompletedCall)) (all : List Entry)
-    (h : HasNoted s opening clients) → IsMerged (opening ∷ clients) all → EachInTurn (opening ∷ clients) →
+pub load_legal : {n : LoadSummary} (s : Settings) (opening : List CompletedCall) (clients : List (List CompletedCall))
+    (all : List Entry)
+    (h : HasNoted s n opening clients) → IsMerged (opening ∷ clients) all → EachInTurn (opening ∷ clients) →
     AreOrdered (map (λ e. e.note) all) → AreLegal s.blocks (map call_of_entry all) h.loaded.last
 load_legal s opening clients all h merged turns ordered =
     ordered_calls_legal s.blocks (opening ∷ clients) all h.loaded.last
@@ -237,8 +240,8 @@ pages_made records_of [] (x ∷ xs) all ks h = elim ks [ ]
 pages_made records_of (p ∷ pages) [] all ks h = elim ks [ ]
 
 -- the completed calls of a load are those of its history
-pub history_calls : (s : Settings) (opening : Page) (clients : List Page)
-    (h : HasNoted s opening.calls (map (λ page. page.calls) clients)) →
+pub history_calls : {n : LoadSummary} (s : Settings) (opening : Page) (clients : List Page)
+    (h : HasNoted s n opening.calls (map (λ page. page.calls) clients)) →
     AreCallsOf (calls_on (opening ∷ clients)) h.loaded.history
 history_calls s opening clients h =
     let l = h.loaded in
@@ -248,8 +251,8 @@ history_calls s opening clients h =
     (pages_made (λ x. x.records) clients l.shares l.rest h.of_clients l.each_once))
 
 -- they made this history
-unfoldable pub made_history : (s : Settings) (opening : Page) (clients : List Page) →
-    HasNoted s opening.calls (map (λ page. page.calls) clients) → MadeHistory s.blocks (calls_on (opening ∷ clients))
+unfoldable pub made_history : {n : LoadSummary} (s : Settings) (opening : Page) (clients : List Page) →
+    HasNoted s n opening.calls (map (λ page. page.calls) clients) → MadeHistory s.blocks (calls_on (opening ∷ clients))
 made_history s opening clients h =
     let l = h.loaded in
     record {

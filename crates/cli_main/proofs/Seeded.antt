@@ -11,6 +11,7 @@ use Rattle.load_run.specs.declared.load.Load.{Load}
 use Rattle.load_run.specs.declared.load.LoadReport.{LoadReport}
 use Rattle.load_run.specs.declared.load.LoadFault.{LoadFault}
 use Rattle.load_run.specs.declared.load.LoadFault.TheVariants as load
+use Rattle.load_run.specs.Attempted.{AreStatistics}
 use Rattle.load_run.specs.Load.{IsStopOfLoad, StopsLoad, is_load}
 use Rattle.load_run.specs.Streams.{IsBySeed}
 use Rattle.load_run.proofs.Loads.{kept_by_seed, stop_by_seed}
@@ -32,6 +33,7 @@ pub ran_by_seed : {G K : Type 0} (notes : K → RecorderContents) (s : Settings)
 ran_by_seed notes s recorders l (Ok r) can is h = record {
   arguments = (λ e. absurd cc, λ f. absurd (let e = can.1 f in cc));
   kept = kept_by_seed notes s recorders r.2 l r.0.outcomes r.0.report r.1.attempts is h.kept;
+  statistics = subst (λ (t : Settings). AreStatistics t.tries r.0.outcomes r.1) is.settings_are h.statistics;
   refused = tt;
 }
 ran_by_seed notes s recorders l (Err e) can is h = record {
@@ -40,6 +42,7 @@ ran_by_seed notes s recorders l (Err e) can is h = record {
     λ f. absurd (let x = can.1 f in cc),
   );
   kept = tt;
+  statistics = tt;
   refused = inr (stop_by_seed s recorders l e is h.refused);
 }
 
@@ -51,11 +54,13 @@ pub not_seeded : {L K : Type 0} (notes : K → RecorderContents) (s : Settings) 
 not_seeded {L} notes s recorders e can (inl arguments) = record {
   arguments = (λ same. can.0 (let x = same in cc), λ f. let x = can.1 f in cc);
   kept = tt;
+  statistics = tt;
   refused = inl arguments;
 }
 not_seeded {L} notes s recorders e can (inr memory) = record {
   arguments = (λ same. can.0 (let x = same in cc), λ f. let x = can.1 f in cc);
   kept = tt;
+  statistics = tt;
   refused = inr (
     stream_of s.seed 0,
     subst (λ (f : LoadFault). IsStopOfLoad gives s (stream_of s.seed 0)

@@ -13,11 +13,13 @@ use Rattle.vac_manager.specs.declared.note.CompletedCall.{CompletedCall}
 use Rattle.vac_manager.specs.Keeping.{IsNoted}
 use Rattle.load_record.specs.declared.journal.CallRecorder.{CallRecorder}
 use Rattle.load_record.specs.Turns.{NotesTakeTime, AreInTurn, EachInTurn}
-use Rattle.load_record.specs.Order.{precedes, rank_of, list_at, AreOrdered, EachOrdered}
+use Rattle.stm_object.specs.Places.{rank_of}
+use Rattle.load_record.specs.Order.{precedes, list_at, AreOrdered, EachOrdered}
 use Rattle.load_record.specs.History.{notes_of, kept_by}
 use Rattle.load_run.specs.Lists.{Paired, none, both}
 use Rattle.load_run.specs.Load.{InterleavedAll}
 use Rattle.load_run.proofs.Merging.{first_sub, second_sub}
+use Rattle.cli_main.specs.declared.stats.LoadSummary.{LoadSummary}
 use Rattle.cli_main.specs.Load.{HasNoted}
 
 -- what stands first by three numbers, the last of which do not go back, stands first by the first two
@@ -106,8 +108,9 @@ sub_back [] [] = done
 sub_back [] (x ∷ m) = keep x (sub_back [] m)
 sub_back (x ∷ l) m = skip x (sub_back l m)
 
-pub each_ordered : {C : Type 0} (s : Settings) (opening : CallRecorder C) (clients : List (CallRecorder C)) →
-    HasNoted s (notes_of opening) (map notes_of clients) → EachOrdered (kept_by opening clients)
+pub each_ordered : {C : Type 0} {n : LoadSummary} (s : Settings) (opening : CallRecorder C)
+    (clients : List (CallRecorder C)) →
+    HasNoted s n (notes_of opening) (map notes_of clients) → EachOrdered (kept_by opening clients)
 each_ordered s opening clients h place =
     let sorted : Sorted (h.loaded.opened ++ h.loaded.rest) =
     subst Sorted h.loaded.opening_first h.loaded.in_order in

@@ -2,6 +2,7 @@ pub mod Program
 pub mod Reporting
 pub mod Load
 pub mod Ending
+pub mod Statistics
 pub mod Judging
 pub mod Ordering
 pub mod Asking

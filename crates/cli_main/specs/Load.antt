@@ -1,11 +1,8 @@
--- The lines that a load writes.
-use Rattle.std.specs.Prelude.{◌≡◌, ◌≢◌, ◌↔◌, ℕ, ◌⊎◌, true, false, List, ◌∷◌, ◌++◌, map}
-use Rattle.std.specs.Prelude.{[], length, Option, Some, None, All, codes, vec_len, Result, IfOk, IfErr}
+-- The output of a load.
+use Rattle.std.specs.Prelude.{◌≡◌, ◌≢◌, ◌↔◌, ℕ, ◌⊎◌, ⊤, Bool, true, false, List, ◌∷◌, map}
+use Rattle.std.specs.Prelude.{[], length, Option, Some, None, All, vec_len, Result, IfOk, IfErr}
 use Rattle.std.specs.Prelude.{IsErrOf}
 use Rattle.std.specs.Io.KnownBytes.{Appends}
-use Rattle.vac_lines.specs.Script.{as_line}
-use Rattle.vac_lines.specs.Text.{field_text, report_text}
-use Rattle.load_run.specs.declared.outcomes.Outcomes.{Outcomes}
 use Rattle.load_run.specs.declared.load.LoadReport.{LoadReport}
 use Rattle.load_run.specs.declared.load.LoadFault.{LoadFault}
 use Rattle.load_run.specs.declared.load.LoadFault.TheVariants as load
@@ -24,72 +21,66 @@ use Rattle.load_record.specs.Order.{AreOrdered}
 use Rattle.load_record.specs.History.{call_of_entry, calls_text, WroteHistory, WroteHistoryPrefix}
 use Rattle.load_record.specs.Legal.{AreLegal, JudgedByPrecedence}
 use Rattle.judge_calls.specs.CallText.{IsTheirHistory}
-use Rattle.load_record.specs.Pages.{Page, attempts_of, calls_on}
+use Rattle.load_record.specs.Pages.{Page, calls_on}
 use Rattle.load_record.specs.Text.{WroteAttempts, WroteAttemptsPrefix, AreTooLong}
 use Rattle.load_record.specs.Loads.{MadeHistory, MadeHistoryFrom}
-use Rattle.load_record.specs.InPlace.{AbortedReadAtTheirPlaces, JudgedByTimes}
+use Rattle.load_record.specs.InPlace.{AbortedReadAtTheirPlaces}
+use Rattle.load_record.specs.InTurn.{MadeInTurn, LoadJudgedByPrecedence}
 use Rattle.load_record.specs.Entries.{attempt_of}
 use Rattle.judge_opacity.specs.Laws.{EachIsLegal}
 use Rattle.load_run.specs.Lists.{Paired}
 use Rattle.load_run.specs.declared.statistics.AttemptStatistics.{AttemptStatistics}
 use Rattle.load_run.specs.declared.slots.Recorders.{Recorders}
 use Rattle.load_run.specs.Keeping.{RecorderContents}
-use Rattle.load_run.specs.Made.{ReadsOneImageIfAborted, AreAscending, AreMade, AreLeft}
-use Rattle.load_run.specs.Several.{Interleaved}
+use Rattle.load_run.specs.Made.{ReadsOneImageIfAborted, AreMade, AreLeft}
+use Rattle.load_run.specs.Several.{sum_of}
+use Rattle.load_run.specs.Attempted.{AreStatistics}
 use Rattle.load_run.specs.declared.load.Load.{Load}
 use Rattle.load_run.specs.Load.{IsLoadFault, HaveRead, LoadedKept, StopsLoad, is_load}
 use Rattle.load_run.specs.Slots.{kept_at}
 use Rattle.load_run.specs.Streams.{LoadedBySeed, KeptBySeed}
 use Rattle.vac_lines.specs.Writing.{AppendsPrefix}
-use Rattle.cli_main.specs.Ending.{EndsWithStatus, NamedAfterWriting, load_fault_line, long_attempt_line}
+use Rattle.vac_lines.specs.declared.stream_fault.StreamFault.TheVariants.{Memory}
+use Rattle.cli_options.specs.declared.asked.LoadOutput.{LoadOutput}
+use Rattle.cli_main.specs.declared.stats.LoadSummary.{LoadSummary}
+use Rattle.cli_main.specs.Statistics.{load_text, summary_text}
+use Rattle.cli_main.specs.Ending.{EndsWithStatus, NamedAfterWriting, fault_line, load_fault_line}
+use Rattle.cli_main.specs.Ending.{long_attempt_line}
 
--- the number of completed tasks, and the number of tasks that met a conflict with another client
--- in each attempt, as text
-abbrev pub tried_text : Outcomes → List ℕ
-tried_text t = field_text (codes "answered ") t.answered ++ field_text (codes " busy ") t.busy
+-- the load of these settings ran to its end with this summary, and exactly its two lines were
+-- written
+pub record WroteLoad (s : Settings) (n : LoadSummary) (held holds : Option (List ℕ)) : Type 0 where
+  pub loaded : LoadedBySeed s n.report.outcomes n.report.report
+  pub attempts_add_up : n.statistics.attempts ≡ sum_of (λ x. x.attempts) loaded.shares
+  pub written : Appends held holds (load_text n.report)
 
--- the number of tasks that were refused memory, and the number of tasks that found the clock
--- spent, as text
-abbrev pub wanting_text : Outcomes → List ℕ
-wanting_text t = field_text (codes " memory ") t.memory ++ field_text (codes " spent ") t.spent
-
--- the text of a load's counts
-abbrev pub tally_text : Outcomes → List ℕ
-tally_text t = tried_text t ++ wanting_text t
-
--- the two lines of a load
-abbrev pub load_text : LoadReport → List ℕ
-load_text load = as_line (tally_text load.outcomes) ++ as_line (report_text load.report)
-
--- the load of these settings ran to its end, and exactly its two lines were written
-pub record WroteLoad (s : Settings) (held holds : Option (List ℕ)) : Type 0 where
-  pub load : LoadReport
-  pub loaded : LoadedBySeed s load.outcomes load.report
-  pub written : Appends held holds (load_text load)
-
--- the load ran to its end, and a prefix of its two lines was written
-pub record WroteLoadInPart (s : Settings) (held holds : Option (List ℕ)) : Type 0 where
-  pub load : LoadReport
-  pub loaded : LoadedBySeed s load.outcomes load.report
-  pub written : AppendsPrefix held holds (load_text load)
+-- the load ran to its end, and a prefix of its two lines was written, or of the line that names
+-- refused memory
+pub record WroteLoadInPart (s : Settings) (n : LoadSummary) (held holds : Option (List ℕ))
+    : Type 0 where
+  pub loaded : LoadedBySeed s n.report.outcomes n.report.report
+  pub attempts_add_up : n.statistics.attempts ≡ sum_of (λ x. x.attempts) loaded.shares
+  pub written : AppendsPrefix held holds (fault_line Memory)
+      ⊎ AppendsPrefix held holds (load_text n.report)
 
 -- the fault is the reason why the load of a seed did not run to its end; the setup phase of such a
 -- load draws from stream 0
 abbrev pub IsFaultBySeed : Settings → LoadFault → Type 0
 IsFaultBySeed s fault = IsLoadFault gives s (stream_of s.seed 0) fault
 
--- this load was run, and draws from generators: the result has the recorded calls, or the reason
--- why the load did not run to its end
+-- this load was run, and draws from generators: the result has the recorded calls and the attempt
+-- statistics, or the reason why the load did not run to its end
 pub record HasRun {G K : Type 0} (notes : K → RecorderContents) (l : Load Lcg G K)
     (result : Result (LoadReport × AttemptStatistics × Recorders K) LoadFault) : Type 0 where
-  pub kept : IfOk result (λ r. LoadedKept gives l.plan.settings (λ seat. seat.draws) l.draws
+  pub kept : IfOk result (λ r. LoadedKept gives l.plan.settings (λ slot. slot.draws) l.draws
       l.slots.items r.0.outcomes r.0.report r.1.attempts (notes l.keep) (notes r.2.opening)
       (kept_at notes l.slots.items) (map notes r.2.clients.items))
+  pub statistics : IfOk result (λ r. AreStatistics l.plan.settings.tries r.0.outcomes r.1)
   pub refused : IfErr result (λ fault. StopsLoad gives l.plan.settings l.draws fault)
 
 -- a load of these settings was run with these recorders, or refused because the settings and the
--- recorders do not fit: the result has the recorded calls, or the reason why the load did not run
--- to its end
+-- recorders do not fit: the result has the recorded calls and the attempt statistics, or the reason
+-- why the load did not run to its end
 pub record RunsKept {K : Type 0} (notes : K → RecorderContents) (s : Settings)
     (recorders : Recorders K)
     (result : Result (LoadReport × AttemptStatistics × Recorders K) LoadFault) : Type 0 where
@@ -97,6 +88,7 @@ pub record RunsKept {K : Type 0} (notes : K → RecorderContents) (s : Settings)
       ↔ (is_load s (vec_len recorders.clients) ≡ false)
   pub kept : IfOk result (λ r. KeptBySeed notes s r.0.outcomes r.0.report r.1.attempts
       recorders r.2)
+  pub statistics : IfOk result (λ r. AreStatistics s.tries r.0.outcomes r.1)
   pub refused : IfErr result (λ fault. IsFaultBySeed s fault)
 
 -- a load of these settings was stopped by a fault other than unfitting arguments, and a prefix of
@@ -109,36 +101,66 @@ abbrev pub NamedFault : Settings → Option (List ℕ) → Option (List ℕ) →
 NamedFault s held holds = (fault : LoadFault) × (fault ≢ load.Arguments)
     × IsFaultBySeed s fault × AppendsPrefix held holds (load_fault_line fault)
 
+-- nothing was written to standard error, unless the load reports its progress
+abbrev pub WritesNothingUnlessProgress : Bool → Option (List ℕ) → Option (List ℕ) → Type 0
+WritesNothingUnlessProgress true told tells = ⊤
+WritesNothingUnlessProgress false told tells = tells ≡ told
+
+-- a prefix of this text and nothing else was written to standard error, unless the load reports its
+-- progress
+abbrev pub WritesPrefixUnlessProgress : Bool → List ℕ → Option (List ℕ) → Option (List ℕ) → Type 0
+WritesPrefixUnlessProgress true text told tells = ⊤
+WritesPrefixUnlessProgress false text told tells = AppendsPrefix told tells text
+
+-- a load of these settings ran to its end with a summary for which `writing` holds. Its attempt
+-- statistics fit the counts of its tasks, and a prefix of the lines about its end was written to
+-- standard error
+-- Not said: what is written to standard error if the load reports its progress; that the lines are
+-- written at all. Tests look at both.
+-- Not said: that the attempts and conflicts are those that were made, and of which kind; that the
+-- nanoseconds are those that the clients took.
+pub record CompletedLoad (how : LoadOutput) (s : Settings) (told tells : Option (List ℕ))
+    (writing : LoadSummary → Type 0) : Type 0 where
+  pub summary : LoadSummary
+  pub fit : AreStatistics s.tries summary.report.outcomes summary.statistics
+  pub wrote : writing summary
+  pub lines : WritesPrefixUnlessProgress how.progress (summary_text how summary) told tells
+
+-- what a load of these settings and with this summary wrote to the output
+abbrev pub LoadWriting : Type 1
+LoadWriting = Settings → LoadSummary → Option (List ℕ) → Option (List ℕ) → Type 0
+
 -- a load with fitting settings is run: its result is written, or a fault ends it and is named, or
--- `stopped` describes its end; if the settings do not fit each other, the command line is refused
-abbrev pub EndsLoad : (wrote stopped : Settings → Option (List ℕ) → Option (List ℕ) → Type 0) → ℕ
-    → Settings → Option (List ℕ) → Option (List ℕ) → Type 0
-EndsLoad wrote stopped status s held holds =
+-- `stopped` describes its end; if the settings do not fit each other, the command line is refused.
+-- If a fault ends the load before its result is written, nothing is written to standard error,
+-- unless the load reports its progress
+-- Not said: what is written to standard error about a refused command line.
+abbrev pub EndsLoad : (wrote stopped : LoadWriting) → LoadOutput → ℕ → Settings
+    → Option (List ℕ) → Option (List ℕ) → Option (List ℕ) → Option (List ℕ) → Type 0
+EndsLoad wrote stopped how status s held holds told tells =
     ((is_settings s ≡ true)
-    × EndsWithStatus status (wrote s held holds) (NamedFault s held holds ⊎ stopped s held holds))
+    × EndsWithStatus status
+    (CompletedLoad how s told tells (λ n. wrote s n held holds))
+    ((NamedFault s held holds × WritesNothingUnlessProgress how.progress told tells)
+    ⊎ CompletedLoad how s told tells (λ n. stopped s n held holds)))
     ⊎ ((is_settings s ≡ false) × (status ≡ 2)
     × AppendsPrefix held holds (load_fault_line load.Arguments))
 
 -- the recorded calls of a load were written in part, followed by a prefix of the line of a fault
-abbrev pub StoppedKept : (in_part : Settings → Option (List ℕ) → Option (List ℕ) → Type 0)
-    → Settings → Option (List ℕ) → Option (List ℕ) → Type 0
-StoppedKept in_part s held holds = NamedAfterWriting (in_part s held) holds
+abbrev pub StoppedKept : (in_part : LoadWriting) → LoadWriting
+StoppedKept in_part s n held holds = NamedAfterWriting (in_part s n held) holds
 
--- the end of a load that writes its recorded calls
-abbrev pub EndsKept : (wrote in_part : Settings → Option (List ℕ) → Option (List ℕ) → Type 0) → ℕ
-    → Settings → Option (List ℕ) → Option (List ℕ) → Type 0
-EndsKept wrote in_part status s held holds =
-    EndsLoad wrote (StoppedKept in_part) status s held holds
-
--- the load of these settings ran to its end, and the notes are its completed calls: those of the
--- setup phase and those of each client, one for each record, in the order of the records
-pub record HasNoted (s : Settings) (opening : List CompletedCall)
-    (clients : List (List CompletedCall))
-    : Type 0 where
-  pub load : LoadReport
-  pub loaded : LoadedBySeed s load.outcomes load.report
-  pub of_opening : Paired IsNoted opening loaded.opened
-  pub of_clients : Paired (λ notes x. Paired IsNoted notes x.records) clients loaded.shares
+-- the load of these settings ran to its end with this summary, and the notes are its completed
+-- calls: those of the setup phase and those of each client, one for each record, in the order of
+-- the records. The numbers of attempts of the clients' shares add up to that of the statistics
+-- Not said: that a client made as many attempts as its share says.
+pub record HasNoted (s : Settings) (n : LoadSummary) (opening : List CompletedCall)
+    (clients : List (List CompletedCall)) : Type 0
+  where
+    pub loaded : LoadedBySeed s n.report.outcomes n.report.report
+    pub attempts_add_up : n.statistics.attempts ≡ sum_of (λ x. x.attempts) loaded.shares
+    pub of_opening : Paired IsNoted opening loaded.opened
+    pub of_clients : Paired (λ notes x. Paired IsNoted notes x.records) clients loaded.shares
 
 -- the listed calls; none if there is no list
 abbrev pub calls_in : Option (List CompletedCall) → List CompletedCall
@@ -154,7 +176,7 @@ pub record IsEmpty (kept : RecorderContents) : Type 0 where
   pub calls : kept.calls ≡ Some []
   pub traces : (all : List Trace) → kept.traces ≡ Some all → all ≡ []
 
--- a client made this number of attempts, in turn from the first position to the last one, and these
+-- a client made this number of attempts, in turn by their positions and by their times, and these
 -- are the traces of them that stayed in its recorder: the aborted ones, each once, and some of the
 -- committed ones. All words that an aborted attempt has read are in the image of its read version
 -- in this history, applied to this image
@@ -163,11 +185,13 @@ pub record AreAllTraces (image : List ℕ) (history : List Record) (attempts : �
   where
     pub first : CommitPosition
     pub last : CommitPosition
+    pub from : ℕ
+    pub to : ℕ
     pub records : List Record
     pub aborts : List Aborted
     pub made : List Trace
     pub number : length made ≡ attempts
-    pub are_made : AreMade first last calls records aborts made
+    pub are_made : AreMade first last from to calls records aborts made
     pub are_left : AreLeft made all
     pub read : HaveRead image history aborts
 
@@ -176,12 +200,12 @@ abbrev pub HasAllAttempts : List ℕ → List Record → ℕ → RecorderContent
 HasAllAttempts image history attempts kept = (all : List Trace) → kept.traces ≡ Some all →
     AreAllTraces image history attempts (calls_kept kept) all
 
--- the load ran to its end, and the recorders have its completed calls, and all attempts of the
--- setup phase and of each client
-pub record AreNoted {K : Type 0} (notes : K → RecorderContents) (s : Settings) (k : Recorders K)
-    : Type 0
+-- the load ran to its end with this summary, and the recorders have its completed calls, and all
+-- attempts of the setup phase and of each client
+pub record AreNoted {K : Type 0} (notes : K → RecorderContents) (s : Settings) (n : LoadSummary)
+    (k : Recorders K) : Type 0
   where
-    pub calls : HasNoted s (calls_kept (notes k.opening))
+    pub calls : HasNoted s n (calls_kept (notes k.opening))
         (map (λ x. calls_kept (notes x)) k.clients.items)
     pub setup_attempts : ℕ
     pub opening : HasAllAttempts calls.loaded.image calls.loaded.history setup_attempts
@@ -189,19 +213,14 @@ pub record AreNoted {K : Type 0} (notes : K → RecorderContents) (s : Settings)
     pub clients : Paired (λ x share. HasAllAttempts calls.loaded.image calls.loaded.history
         share.attempts (notes x)) k.clients.items calls.loaded.shares
 
--- the attempts on the page are this many, and they have an order `made` in which those of the
--- completed calls are in the order of the calls, and the aborted ones in the order in which the
--- page lists them. From one attempt to the next, the renewal does not decrease, and within a
--- renewal the version does not
--- Not said: that the client made them in this order; anything of the positions before the first
--- attempt and after the last one.
+-- the attempts on the page are this many, and they have an order in which those of the completed
+-- calls are in the order of the calls, and the aborted ones in the order in which the page lists
+-- them. By their stamps none begins before an earlier one ended, and by their commit positions none
+-- is before an earlier one
+-- Not said: that the client made its attempts in this order.
 pub record IsWholePage (attempts : ℕ) (page : Page) : Type 0 where
-  pub made : List TracedAttempt
-  pub number : length made ≡ attempts
-  pub each_once : Interleaved (attempts_of page.calls) page.given_up made
-  pub first : CommitPosition
-  pub last : CommitPosition
-  pub ascending : AreAscending first (map trace_of made) last
+  pub in_turn : MadeInTurn page
+  pub number : length in_turn.attempts ≡ attempts
 
 -- each attempt listed as aborted on the page read one image
 abbrev pub GivenUpReadOneImage : Page → Type 0
@@ -214,14 +233,14 @@ GivenUpReadOneImage page = All (λ a. ReadsOneImageIfAborted (trace_of a)) page.
 -- another began comes after that other call
 -- Not said: that the order keeps real time. The clock readings of two clients do not show which of
 -- them read first.
--- Not said: that a stamp is a reading of the clock; that the state is the one that the load writes
--- to the error stream, of which no clause speaks.
+-- Not said: that a stamp is a reading of the clock.
 -- Not said: that no call was left out because a call recorder had no room for it. Of the call
 -- recorders that a load returns, only the recorded calls are known.
-pub record WroteCalls (s : Settings) (held holds : Option (List ℕ)) : Type 0 where
+pub record WroteCalls (s : Settings) (n : LoadSummary) (held holds : Option (List ℕ))
+    : Type 0 where
   pub opening : List CompletedCall
   pub clients : List (List CompletedCall)
-  pub noted : HasNoted s opening clients
+  pub noted : HasNoted s n opening clients
   pub in_turn : EachInTurn (opening ∷ clients)
   pub written : WroteHistory (opening ∷ clients) held holds
   pub in_order : AreOrdered (map (λ e. e.note) written.all)
@@ -230,10 +249,11 @@ pub record WroteCalls (s : Settings) (held holds : Option (List ℕ)) : Type 0 w
   pub judged : JudgedByPrecedence s.blocks (calls_text written.all) (map call_of_entry written.all)
 
 -- the load ran to its end, and a prefix of such a history was written
-pub record WroteCallsInPart (s : Settings) (held holds : Option (List ℕ)) : Type 0 where
+pub record WroteCallsInPart (s : Settings) (n : LoadSummary) (held holds : Option (List ℕ))
+    : Type 0 where
   pub opening : List CompletedCall
   pub clients : List (List CompletedCall)
-  pub noted : HasNoted s opening clients
+  pub noted : HasNoted s n opening clients
   pub in_turn : EachInTurn (opening ∷ clients)
   pub written : WroteHistoryPrefix (opening ∷ clients) held holds
   pub in_order : AreOrdered (map (λ e. e.note) written.all)
@@ -247,24 +267,24 @@ pub record WroteCallsInPart (s : Settings) (held holds : Option (List ℕ)) : Ty
 -- sorted by commit position. The committed attempts made the history that the calls made, which is
 -- serial from the initial words, and the lines are read as these attempts. Each attempt listed as
 -- aborted reads the words of that history at the version at which it is listed, and every listed
--- attempt is legal. So the judge calls the text opaque if and only if the attempts of each client
--- are in turn, and no attempt comes before one that had ended before it began
--- Some balanced heap agrees with all reads of each attempt listed as aborted. For each client, the
--- listed attempts are as many as some share of a load counts. There is an order of them, the
--- committed ones in the order of the calls, in which commit positions do not decrease
--- Not said: in which order the client made its aborted attempts.
+-- attempt is legal. The listed attempts of each client have an order that is in turn. So the judge
+-- calls the text opaque if and only if each attempt that had ended before another began comes
+-- before that other attempt.
+-- Some balanced heap agrees with all reads of each attempt listed as aborted. The listed attempts
+-- of all clients together are as many as the load's statistics count, the setup phase left out
+-- Not said: that a client made its attempts in this order.
 -- Not said: that an attempt listed as aborted was made, at that version and with no other reads;
 -- its client, and its writes.
--- Not said: that each aborted attempt of the load is among them, once; that nothing was left out
--- because an attempt recorder had no room for it. The counts are tied to no output, so they bound
--- no number of aborted attempts from below; how many the setup phase makes is not said.
--- Not said: that the client made its attempts in this order, and that its lines have it.
--- Not said: that a stamp is a reading of the clock, and that the stamps of each client are in turn.
--- The program's `opaque` judges these.
-pub record WroteLoadAttempts (s : Settings) (held holds : Option (List ℕ)) : Type 0 where
+-- Not said: that each aborted attempt of the load is listed. A text and statistics that both leave
+-- out some would meet this, as long as the statistics fit the counts of the tasks.
+-- Not said: how many attempts the setup phase makes.
+-- Not said: that a stamp is a reading of the clock, and that the stamps of different clients keep
+-- the order. If all stamps are 0, nothing is said about time.
+pub record WroteLoadAttempts (s : Settings) (n : LoadSummary) (held holds : Option (List ℕ))
+    : Type 0 where
   pub opening : Page
   pub clients : List Page
-  pub noted : HasNoted s opening.calls (map (λ page. page.calls) clients)
+  pub noted : HasNoted s n opening.calls (map (λ page. page.calls) clients)
   pub written : WroteAttempts s.blocks (opening ∷ clients) held holds
   pub made : MadeHistory s.blocks (calls_on (opening ∷ clients))
   -- it is the history of the load
@@ -273,7 +293,7 @@ pub record WroteLoadAttempts (s : Settings) (held holds : Option (List ℕ)) : T
   pub history : MadeHistoryFrom made.image made.history written.all
   pub read : AbortedReadAtTheirPlaces made.image made.history (opening ∷ clients)
   pub legal : EachIsLegal (map attempt_of written.all)
-  pub judged : JudgedByTimes s.blocks written.all
+  pub judged : LoadJudgedByPrecedence s.blocks written.all
   pub aborted : All GivenUpReadOneImage (opening ∷ clients)
   pub setup_attempts : ℕ
   pub of_opening : IsWholePage setup_attempts opening
@@ -282,10 +302,11 @@ pub record WroteLoadAttempts (s : Settings) (held holds : Option (List ℕ)) : T
 -- the load ran to its end, and nothing or a prefix of a text of its attempts was written. Each
 -- attempt listed as aborted reads the words of a history that the calls made
 -- Not said: that this history is that of `noted`; that the lines are legal.
-pub record WroteLoadAttemptsInPart (s : Settings) (held holds : Option (List ℕ)) : Type 0 where
+pub record WroteLoadAttemptsInPart (s : Settings) (n : LoadSummary) (held holds : Option (List ℕ))
+    : Type 0 where
   pub opening : Page
   pub clients : List Page
-  pub noted : HasNoted s opening.calls (map (λ page. page.calls) clients)
+  pub noted : HasNoted s n opening.calls (map (λ page. page.calls) clients)
   pub written : WroteAttemptsPrefix s.blocks (opening ∷ clients) held holds
   pub made : MadeHistory s.blocks (calls_on (opening ∷ clients))
   pub read : AbortedReadAtTheirPlaces made.image made.history (opening ∷ clients)
@@ -296,15 +317,16 @@ pub record WroteLoadAttemptsInPart (s : Settings) (held holds : Option (List ℕ
 
 -- the load ran to its end, and no attempt was written, because one has more than 2,164,800 reads
 -- and writes, or one that is at no word of the heap; a prefix of the line of this fault was written
-pub record HasLongAttempt (s : Settings) (held holds : Option (List ℕ)) : Type 0 where
+pub record HasLongAttempt (s : Settings) (n : LoadSummary) (held holds : Option (List ℕ))
+    : Type 0 where
   pub opening : Page
   pub clients : List Page
-  pub noted : HasNoted s opening.calls (map (λ page. page.calls) clients)
+  pub noted : HasNoted s n opening.calls (map (λ page. page.calls) clients)
   pub long : AreTooLong s.blocks (opening ∷ clients)
   pub named : AppendsPrefix held holds long_attempt_line
 
 -- the attempts of a load were not all written: writing them was stopped by a fault, which is named,
 -- or none was written because an attempt is too long
-abbrev pub StoppedAttempts : Settings → Option (List ℕ) → Option (List ℕ) → Type 0
-StoppedAttempts s held holds =
-    StoppedKept WroteLoadAttemptsInPart s held holds ⊎ HasLongAttempt s held holds
+abbrev pub StoppedAttempts : LoadWriting
+StoppedAttempts s n held holds =
+    StoppedKept WroteLoadAttemptsInPart s n held holds ⊎ HasLongAttempt s n held holds

@@ -8,6 +8,7 @@ use Rattle.clap.specs.declared.error.kind.ErrorKind.TheVariants as error
 use Rattle.load_tasks.specs.declared.settings.Settings.{Settings}
 use Rattle.load_tasks.specs.Setting.{is_settings}
 use Rattle.load_run.specs.declared.load.LoadFault.TheVariants.{Arguments}
+use Rattle.cli_options.specs.declared.asked.LoadOutput.{LoadOutput}
 use Rattle.cli_options.specs.declared.asked.Request.{Request}
 use Rattle.cli_options.specs.declared.asked.Request.TheVariants.{Run, Dump, Check, Judge, Order}
 use Rattle.cli_options.specs.declared.asked.Request.TheVariants.{Opaque, Part, Load, Tasks}
@@ -19,8 +20,8 @@ use Rattle.cli_script.specs.Script.{WroteAll, WrotePrefix}
 use Rattle.cli_script.specs.Dump.{Dumped, DumpStopped}
 use Rattle.cli_script.specs.Check.{Checked, CheckStopped}
 use Rattle.load_tasks.specs.Worklist.{WroteTasks, WroteTasksPrefix}
-use Rattle.cli_main.specs.Load.{EndsLoad, WroteLoad, WroteLoadInPart}
-use Rattle.cli_main.specs.Load.{EndsKept, WroteCalls, WroteCallsInPart, WroteLoadAttempts, StoppedAttempts}
+use Rattle.cli_main.specs.Load.{EndsLoad, WroteLoad, WroteLoadInPart, StoppedKept}
+use Rattle.cli_main.specs.Load.{WroteCalls, WroteCallsInPart, WroteLoadAttempts, StoppedAttempts}
 use Rattle.cli_main.specs.Ending.{EndsWithStatus, NamedAfter, NamedAfterWriting, fault_line, load_fault_line}
 use Rattle.cli_main.specs.Ordering.{Orders}
 use Rattle.cli_main.specs.Asking.{Refuses, JudgesAsked, JudgesOpacity}
@@ -28,22 +29,23 @@ use Rattle.cli_main.specs.Parting.{WritesPartOf}
 use Rattle.cli_main.specs.Reporting.{Reports}
 use Rattle.cli_options.specs.CommandLine.{vacation, AsksFor}
 
--- the program runs a load, and writes its history or its two lines
-abbrev pub Loads : Bool → ℕ → Settings → Option (List ℕ) → Option (List ℕ) → Type 0
-Loads true status s held holds = EndsKept WroteCalls WroteCallsInPart status s held holds
-Loads false status s held holds = EndsLoad WroteLoad WroteLoadInPart status s held holds
-
--- the program runs a load, and writes its attempts
-abbrev pub WritesAttempts : ℕ → Settings → Option (List ℕ) → Option (List ℕ) → Type 0
-WritesAttempts status s held holds = EndsLoad WroteLoadAttempts StoppedAttempts status s held holds
-
 -- the program runs a load, and writes its history, its attempts or its two lines; if both history
--- and attempts are asked for, the command line is refused, and nothing is written
-abbrev pub LoadsAs : Bool → Bool → ℕ → Settings → Option (List ℕ) → Option (List ℕ) → Type 0
-LoadsAs true true status s held holds = (status ≡ 2) × (holds ≡ held)
-LoadsAs true false status s held holds = Loads true status s held holds
-LoadsAs false true status s held holds = WritesAttempts status s held holds
-LoadsAs false false status s held holds = Loads false status s held holds
+-- and attempts are asked for, the command line is refused, and nothing is written to the output
+abbrev pub LoadsBy : (history attempts : Bool) → LoadOutput → ℕ → Settings → Option (List ℕ)
+    → Option (List ℕ) → Option (List ℕ) → Option (List ℕ) → Type 0
+LoadsBy true true how status s held holds told tells = (status ≡ 2) × (holds ≡ held)
+LoadsBy true false how status s held holds told tells =
+    EndsLoad WroteCalls (StoppedKept WroteCallsInPart) how status s held holds told tells
+LoadsBy false true how status s held holds told tells =
+    EndsLoad WroteLoadAttempts StoppedAttempts how status s held holds told tells
+LoadsBy false false how status s held holds told tells =
+    EndsLoad WroteLoad WroteLoadInPart how status s held holds told tells
+
+-- the program runs a load, and writes what the command line asks for
+abbrev pub LoadsAs : LoadOutput → ℕ → Settings → Option (List ℕ) → Option (List ℕ)
+    → Option (List ℕ) → Option (List ℕ) → Type 0
+LoadsAs how status s held holds told tells =
+    LoadsBy how.history how.attempts how status s held holds told tells
 
 -- the program writes the tasks of a load if its settings fit each other, and refuses the command
 -- line otherwise
@@ -78,26 +80,29 @@ Checks status unread left held holds =
     ⊎ NamedAfter (CheckStopped unread left held) holds)
 
 -- the program does what the command line asks for; `files` gives the bytes of each file by its
--- name
+-- name. A load writes to the output and to standard error; what the other commands write to
+-- standard error is said by `Reports`
 abbrev pub Fulfils : (Text → Option (List ℕ)) → Request → ℕ → Option (List ℕ) → Option (List ℕ)
-    → Option (List ℕ) → Option (List ℕ) → Type 0
-Fulfils files (Run blocks) status unread left held holds =
+    → Option (List ℕ) → Option (List ℕ) → Option (List ℕ) → Option (List ℕ) → Type 0
+Fulfils files (Run blocks) status unread left held holds told tells =
     RunsScript blocks status unread left held holds
-Fulfils files (Dump blocks) status unread left held holds =
+Fulfils files (Dump blocks) status unread left held holds told tells =
     Dumps blocks status unread left held holds
-Fulfils files Check status unread left held holds = Checks status unread left held holds
-Fulfils files (Judge how) status unread left held holds =
+Fulfils files Check status unread left held holds told tells =
+    Checks status unread left held holds
+Fulfils files (Judge how) status unread left held holds told tells =
     JudgesAsked files how status unread left held holds
-Fulfils files (Order blocks search) status unread left held holds =
+Fulfils files (Order blocks search) status unread left held holds told tells =
     Orders search.level blocks search.steps status unread left held holds
-Fulfils files UnknownLevel status unread left held holds = Refuses status unread left held holds
-Fulfils files (Opaque how) status unread left held holds =
+Fulfils files UnknownLevel status unread left held holds told tells =
+    Refuses status unread left held holds
+Fulfils files (Opaque how) status unread left held holds told tells =
     JudgesOpacity how.place how.words status unread left held holds
-Fulfils files (Part words) status unread left held holds =
+Fulfils files (Part words) status unread left held holds told tells =
     WritesPartOf words status unread left held holds
-Fulfils files (Load settings how) status unread left held holds =
-    (left ≡ unread) × LoadsAs how.history how.attempts status settings held holds
-Fulfils files (Tasks settings) status unread left held holds =
+Fulfils files (Load settings how) status unread left held holds told tells =
+    (left ≡ unread) × LoadsAs how status settings held holds told tells
+Fulfils files (Tasks settings) status unread left held holds told tells =
     (left ≡ unread) × ListsTasks status settings held holds
 
 -- the text of `--version`: the name and version of the program, and the toolchain that proved and
@@ -126,7 +131,7 @@ pub record Obeyed (files : Text → Option (List ℕ)) (words : List Text) (stat
   pub taken : fault_of vacation words ≡ []
   pub asked : Request
   pub asks : AsksFor words asked
-  pub done : Fulfils files asked status unread left held holds
+  pub done : Fulfils files asked status unread left held holds told tells
   pub reported : Reports asked status told tells
 
 -- memory was refused, or clap does not accept the words: the explanation was shown, and no input

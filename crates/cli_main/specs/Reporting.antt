@@ -69,8 +69,9 @@ ReportsUnless false how status told tells =
     ReportsBeside how.search.progress how.search.stats (is_some how.tasks) status told tells
 
 -- what the program reports on standard error if it does what a command line asks for; the commands
--- that judge no log and run no load report nothing
--- Not said: the reports of `part`, `load` and `tasks`; the text about a word that names no level.
+-- that judge no log and run no load report nothing. What a load reports is said together with its
+-- output, by `Fulfils`
+-- Not said: the reports of `part` and `tasks`; the text about a word that names no level.
 abbrev pub Reports : Request → ℕ → Option (List ℕ) → Option (List ℕ) → Type 0
 Reports (Run blocks) status told tells = tells ≡ told
 Reports (Dump blocks) status told tells = tells ≡ told

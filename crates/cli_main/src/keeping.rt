@@ -6,12 +6,14 @@ ghost use Rattle.load_tasks.specs.declared.settings.Settings.{Settings};
 ghost use Rattle.load_tasks.specs.Setting.{is_settings};
 ghost use Rattle.load_run.specs.declared.slots.Recorders.{Recorders};
 ghost use Rattle.cli_main.specs.Ending.{EndsWithStatus};
-ghost use Rattle.cli_main.specs.Load.{AreNoted, EndsLoad, IsEmpty};
+ghost use Rattle.cli_main.specs.declared.stats.LoadSummary.{LoadSummary};
+ghost use Rattle.cli_main.specs.Load.{AreNoted, EndsLoad, IsEmpty, StoppedKept};
+ghost use Rattle.cli_main.specs.Load.{WroteCalls, WroteCallsInPart, WroteLoadAttempts};
+ghost use Rattle.cli_main.specs.Load.{StoppedAttempts};
 ghost use Rattle.load_run.specs.Keeping.{contents};
-ghost use Rattle.cli_main.specs.Program.{Loads, WritesAttempts};
 
-use crate::load::{LoadRequest, tell_load};
-use crate::stats::{LoadTimer, tell_stats};
+use crate::load::LoadRequest;
+use crate::stats::{LoadSummary, LoadTimer, tell_summary};
 use crate::status::{DONE, end_by, end_by_settings, end_done, end_load_by, end_long_attempt};
 use crate::telling::run_with_progress;
 use load_record::{
@@ -31,24 +33,25 @@ use vac_manager::Recorder;
 pub(crate) struct KeptLoad<'a, K> {
     alloc: Global,
     settings: &'a Settings,
+    summary: LoadSummary,
     recorders: Recorders<K>,
 }
 
 /// A recorder of a client's calls that reads times from a clock, and writes the calls of a whole
 /// load.
 pub(crate) trait Transcript<W>: Recorder + Sized {
-    /// The calls of a load of these settings were written.
-    ghost wrote: { Settings → Option (List ℕ) → Option (List ℕ) → Type 0 };
+    /// The calls of a load of these settings, which ended with these numbers, were written.
+    ghost wrote: { Settings → LoadSummary → Option (List ℕ) → Option (List ℕ) → Type 0 };
 
-    /// The calls of a load of these settings were not all written, and a fault was named.
-    ghost stopped: { Settings → Option (List ℕ) → Option (List ℕ) → Type 0 };
+    /// The calls of such a load were not all written, and a fault was named.
+    ghost stopped: { Settings → LoadSummary → Option (List ℕ) → Option (List ℕ) → Type 0 };
 
     /// The recorders had room for all calls.
     ghost are_whole: { Recorders Self → Bool };
 
     /// Returns a recorder without calls.
     fn empty(alloc: Global, watch: W) -> Self
-        ensures { IsEmpty (contents Self.notes Self.traced result) };
+        ensures { IsEmpty (contents Self.notes Self.traced Self.latest result) };
 
     /// Returns whether the recorders had room for all calls.
     fn are_whole(recorders: &Recorders<Self>) -> bool
@@ -57,13 +60,15 @@ pub(crate) trait Transcript<W>: Recorder + Sized {
     /// Writes the calls of a load, or the last line of a fault, and returns the status.
     fn write<O: Write>(load: &KeptLoad<'_, Self>, output: &mut O) -> u8
         requires fits { is_settings load.now.settings.now ≡ true }
-        requires noted { AreNoted (contents Self.notes Self.traced) load.now.settings.now
-            load.now.recorders }
+        requires noted { AreNoted (contents Self.notes Self.traced Self.latest)
+            load.now.settings.now load.now.summary load.now.recorders }
         requires whole { are_whole load.now.recorders ≡ true }
         requires few { length load.now.recorders.clients.items < 2 ^ 32 }
         ensures { EndsWithStatus result
-            (wrote load.now.settings.now (O.contents output.old) (O.contents output.new))
-            (stopped load.now.settings.now (O.contents output.old) (O.contents output.new)) };
+            (wrote load.now.settings.now load.now.summary
+            (O.contents output.old) (O.contents output.new))
+            (stopped load.now.settings.now load.now.summary
+            (O.contents output.old) (O.contents output.new)) };
 }
 
 impl<W: StampClock> Transcript<W> for CallRecorder<W> {
@@ -72,7 +77,7 @@ impl<W: StampClock> Transcript<W> for CallRecorder<W> {
 
     ghost wrote = { WroteCalls };
 
-    ghost stopped = { λ s held holds. StoppedKept WroteCallsInPart s held holds };
+    ghost stopped = { StoppedKept WroteCallsInPart };
 
     ghost are_whole = { λ k. history.are_whole k.opening k.clients.items };
 
@@ -128,9 +133,9 @@ fn empty_recorders<'a, T: Clock, K: Transcript<ElapsedClock<'a, T>> + Drop>(
 ) -> Result<Recorders<K>, AllocError>
     ensures number { IfOk result (λ recorders. vec_len recorders.clients ≡ count) }
     ensures opening { IfOk result (λ recorders.
-        IsEmpty (contents K.notes K.traced recorders.opening)) }
+        IsEmpty (contents K.notes K.traced K.latest recorders.opening)) }
     ensures clients { IfOk result (λ recorders.
-        All (λ x. IsEmpty (contents K.notes K.traced x)) recorders.clients.items) }
+        All (λ x. IsEmpty (contents K.notes K.traced K.latest x)) recorders.clients.items) }
 {
     let start = Instant::now(clock).ok();
     let mut clients = Vec::with_capacity(alloc, count as usize)?;
@@ -146,8 +151,9 @@ impl<'a, T: Threads + Wait + Clock + Sync + AllocGlobal> LoadRequest<'a, T> {
     /// returns the status. A call for which a call recorder had no room was not issued, and the
     /// load then ends with the fault of refused memory.
     pub(crate) fn note<W: Write, E: Write + Send>(&self, output: &mut W, errors: &mut E) -> u8
-        ensures { Loads true result self.now.settings.now
-            (W.contents output.old) (W.contents output.new) }
+        ensures { EndsLoad WroteCalls (StoppedKept WroteCallsInPart) self.now.how result
+            self.now.settings.now (W.contents output.old) (W.contents output.new)
+            (E.contents errors.old) (E.contents errors.new) }
     {
         let (clock, count) = (self.rt, self.settings.clients);
         let recorders = empty_recorders::<T, CallRecorder<ElapsedClock<'a, T>>>(
@@ -164,8 +170,9 @@ impl<'a, T: Threads + Wait + Clock + Sync + AllocGlobal> LoadRequest<'a, T> {
     /// opacity may not be able to read the line of an attempt, no attempt is written, and the load
     /// ends with a fault of its own.
     pub(crate) fn trace<W: Write, E: Write + Send>(&self, output: &mut W, errors: &mut E) -> u8
-        ensures { WritesAttempts result self.now.settings.now
-            (W.contents output.old) (W.contents output.new) }
+        ensures { EndsLoad WroteLoadAttempts StoppedAttempts self.now.how result
+            self.now.settings.now (W.contents output.old) (W.contents output.new)
+            (E.contents errors.old) (E.contents errors.new) }
     {
         let (clock, count) = (self.rt, self.settings.clients);
         let recorders = empty_recorders::<T, AttemptRecorder<ElapsedClock<'a, T>>>(
@@ -188,11 +195,13 @@ impl<'a, T: Threads + Wait + Clock + Sync + AllocGlobal> LoadRequest<'a, T> {
     where
         K::Tracing: Send,
         requires number { IfOk recorders (λ k. vec_len k.clients ≡ self.now.settings.now.clients) }
-        requires opening { IfOk recorders (λ k. IsEmpty (contents K.notes K.traced k.opening)) }
+        requires opening { IfOk recorders (λ k.
+            IsEmpty (contents K.notes K.traced K.latest k.opening)) }
         requires clients { IfOk recorders (λ k.
-            All (λ x. IsEmpty (contents K.notes K.traced x)) k.clients.items) }
-        ensures { EndsLoad K.wrote K.stopped result self.now.settings.now
-            (W.contents output.old) (W.contents output.new) }
+            All (λ x. IsEmpty (contents K.notes K.traced K.latest x)) k.clients.items) }
+        ensures { EndsLoad K.wrote K.stopped self.now.how result self.now.settings.now
+            (W.contents output.old) (W.contents output.new)
+            (E.contents errors.old) (E.contents errors.new) }
     {
         if !self.settings.is_in_range() {
             return end_by_settings(self.rt.alloc(), self.settings, output, errors);
@@ -216,20 +225,17 @@ impl<'a, T: Threads + Wait + Clock + Sync + AllocGlobal> LoadRequest<'a, T> {
         if !K::are_whole(&recorders) {
             return end_load_by(LoadFault::Memory, output);
         }
-        if self.how.stats {
-            tell_stats(
-                alloc,
-                span.nanos(),
-                report.outcomes.answered,
-                statistics,
-                errors,
-            );
-        }
-        tell_load(alloc, &report, errors);
-        let settings = self.settings;
+        let (settings, nanos) = (self.settings, span.nanos());
+        let summary = LoadSummary {
+            nanos,
+            report,
+            statistics,
+        };
+        tell_summary(alloc, self.how, &summary, errors);
         let load = KeptLoad {
             alloc,
             settings,
+            summary,
             recorders,
         };
         K::write(&load, output)

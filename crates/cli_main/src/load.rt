@@ -1,9 +1,10 @@
 //! A load from the command line, and the lines that the load writes.
 
-ghost use Rattle.std.specs.Prelude.{◌≡◌, ◌≤◌, ◌++◌, ◌⊎◌, false, OnOk};
-ghost use Rattle.cli_main.specs.Load.{tried_text, wanting_text};
-ghost use Rattle.cli_main.specs.Load.{tally_text, load_text};
-ghost use Rattle.cli_main.specs.Program.{Loads, LoadsAs};
+ghost use Rattle.std.specs.Prelude.{◌≡◌, ◌≤◌, ◌++◌, ◌⊎◌, OnOk};
+ghost use Rattle.cli_main.specs.Statistics.{tried_text, wanting_text};
+ghost use Rattle.cli_main.specs.Statistics.{tally_text, load_text};
+ghost use Rattle.cli_main.specs.Load.{EndsLoad, WroteLoad, WroteLoadInPart};
+ghost use Rattle.cli_main.specs.Program.{LoadsAs};
 ghost use Rattle.std.specs.Io.KnownBytes.{Appends};
 ghost use Rattle.vac_lines.specs.declared.stream_fault.StreamFault.TheVariants.{Memory};
 ghost use Rattle.cli_main.specs.Ending.{fault_line};
@@ -11,7 +12,7 @@ ghost use Rattle.vac_lines.specs.Script.{as_line};
 ghost use Rattle.vac_lines.specs.Writing.{AppendsPrefix};
 ghost use Rattle.vac_lines.specs.Text.{report_text};
 
-use crate::stats::{LoadTimer, tell_stats};
+use crate::stats::{LoadSummary, LoadTimer, tell_summary};
 use crate::status::{DONE, FAULT, end_by, end_by_settings, end_load_by, refuse};
 use crate::telling::run_with_progress;
 use cli_options::LoadOutput;
@@ -56,8 +57,8 @@ pub(crate) fn load<T: Threads + Wait + Clock + Sync + AllocGlobal, W: Write, E: 
     output: &mut W,
     errors: &mut E,
 ) -> u8
-    ensures { LoadsAs how.history how.attempts result settings.now
-        (W.contents output.old) (W.contents output.new) }
+    ensures { LoadsAs how result settings.now (W.contents output.old) (W.contents output.new)
+        (E.contents errors.old) (E.contents errors.new) }
 {
     let asked = LoadRequest { rt, settings, how };
     match (how.history, how.attempts) {
@@ -71,8 +72,9 @@ pub(crate) fn load<T: Threads + Wait + Clock + Sync + AllocGlobal, W: Write, E: 
 impl<T: Threads + Wait + Clock + Sync + AllocGlobal> LoadRequest<'_, T> {
     /// Runs the load, writes its two lines, and returns the status.
     fn report<W: Write, E: Write + Send>(&self, output: &mut W, errors: &mut E) -> u8
-        ensures { Loads false result self.now.settings.now
-            (W.contents output.old) (W.contents output.new) }
+        ensures { EndsLoad WroteLoad WroteLoadInPart self.now.how result self.now.settings.now
+            (W.contents output.old) (W.contents output.new)
+            (E.contents errors.old) (E.contents errors.new) }
     {
         if !self.settings.is_in_range() {
             return end_by_settings(self.rt.alloc(), self.settings, output, errors);
@@ -83,23 +85,17 @@ impl<T: Threads + Wait + Clock + Sync + AllocGlobal> LoadRequest<'_, T> {
         let span = LoadTimer::new(self.rt, self.settings.clients);
         match run_with_progress(self.rt, self.settings, self.how, recorders, &span, errors) {
             Ok((report, statistics, _kept)) => {
-                if self.how.stats {
-                    let answered = report.outcomes.answered;
-                    tell_stats(self.rt.alloc(), span.nanos(), answered, statistics, errors);
-                }
+                let nanos = span.nanos();
+                let summary = LoadSummary {
+                    nanos,
+                    report,
+                    statistics,
+                };
+                tell_summary(self.rt.alloc(), self.how, &summary, errors);
                 write_load(self.rt.alloc(), &report, output)
             }
             Err(fault) => end_load_by(fault, output),
         }
-    }
-}
-
-/// Writes the two lines of a load to `errors`. If memory or the write is refused, only these lines
-/// are lost.
-pub(crate) fn tell_load<E: Write>(alloc: Global, report: &LoadReport, errors: &mut E) {
-    let mut text = Vec::new(alloc);
-    if append_load(&mut text, report).is_ok() {
-        let _ = write_and_flush(errors, text.as_slice());
     }
 }
 
@@ -165,7 +161,7 @@ fn append_report_line(out: &mut Vec<u8>, report: Report) -> Result<(), AllocErro
 }
 
 /// Appends the two lines of a load: the counts of its tasks, and the report.
-fn append_load(out: &mut Vec<u8>, load: &LoadReport) -> Result<(), AllocError>
+pub(crate) fn append_load(out: &mut Vec<u8>, load: &LoadReport) -> Result<(), AllocError>
     ensures { OnOk result (out.new.items ≡ out.old.items ++ load_text load.now) }
 {
     append_outcomes_line(out, load.outcomes)?;

@@ -39,12 +39,17 @@ const UNKNOWN_LEVEL: &[u8] = b"error: --level is linearizable, sequential or ser
 ///
 /// Help and the version go to `output`, the text of a refused command line to `errors`. A fault is
 /// the last line of `output`, unless `output` failed. The lines that a load writes to `errors`
-/// (its progress, its statistics, its two lines with `--history`) and those of a judge (its
-/// progress, the figures of its log, a warning) change neither `output` nor the status.
+/// (its progress, its statistics, its two lines with `--history` or `--attempts`) and those of a
+/// judge (its progress, the figures of its log, a warning) change neither `output` nor the status.
 ///
-/// Not said: that a load that is asked for progress lines writes them, their text and their times;
-/// the line of `--stats` of a load; that the figures of a judge's log are those of the log. Tests
-/// look at these.
+/// Not said: that the lines for `errors` are written at all; that the figures of a judge's log are
+/// those of the log. Tests look at both.
+///
+/// Not said: that the attempts and conflicts of `--stats` are those that were made, and its seconds
+/// those that the clients took.
+///
+/// Not said: what is written to `errors` with `--progress`, by `part` and `tasks`, or about a
+/// refused command line.
 pub fn run_words<
     T: Threads + Wait + Clock + Sync + AllocGlobal,
     R: Read,

@@ -1,7 +1,7 @@
 //! Loads that write progress lines while they run.
 
 ghost use Rattle.load_run.specs.Keeping.{contents};
-ghost use Rattle.cli_main.specs.Load.{HasRun, RunsKept};
+ghost use Rattle.cli_main.specs.Load.{HasRun, RunsKept, WritesNothingUnlessProgress};
 
 use crate::stats::LoadTimer;
 use cli_options::LoadOutput;
@@ -69,7 +69,7 @@ impl Progress {
     ) -> Result<(LoadReport, AttemptStatistics, Recorders<K>), LoadFault>
     where
         K::Tracing: Send,
-        ensures { HasRun (contents K.notes K.traced) load result }
+        ensures { HasRun (contents K.notes K.traced K.latest) load result }
     {
         let loaded = load.run(rt);
         self.has_ended.store(true, Ordering::SeqCst);
@@ -148,7 +148,9 @@ pub(crate) fn run_with_progress<
 ) -> Result<(LoadReport, AttemptStatistics, Recorders<K>), LoadFault>
 where
     K::Tracing: Send,
-    ensures { RunsKept (contents K.notes K.traced) settings.now recorders result }
+    ensures kept { RunsKept (contents K.notes K.traced K.latest) settings.now recorders result }
+    ensures silent { WritesNothingUnlessProgress how.progress
+        (E.contents errors.old) (E.contents errors.new) }
 {
     if !how.progress {
         let load = Load::by_seed(rt.alloc(), settings, span, recorders)?;
@@ -163,7 +165,7 @@ where
     let (shared, all) = (&progress, all_tasks(settings));
     let tell = || shared.tell(rt, all, errors);
     let run = move || -> Result<(LoadReport, AttemptStatistics, Recorders<K>), LoadFault>
-        ensures { HasRun (contents K.notes K.traced) load.entry result }
+        ensures { HasRun (contents K.notes K.traced K.latest) load.entry result }
     { shared.run(rt, load) };
     let ((), loaded) = thread::join(rt, tell, run);
     loaded

@@ -6,5 +6,6 @@ use Rattle.cli_main.proofs.keeping.empty_recorders.Given as goal
 
 abbrev pub invariant-loop-number : goal.invariant-loop-number
 invariant-loop-number g l =
-    (vec_len l.clients ≡ l.number) × All (λ x. IsEmpty (contents g.K.Recorder.notes g.K.Recorder.traced x))
+    (vec_len l.clients ≡ l.number) × All (λ x. IsEmpty (contents g.K.Recorder.notes g.K.Recorder.traced
+    g.K.Recorder.latest x))
     l.clients.items

@@ -12,7 +12,7 @@ returns-in-Ok-true g c =
     let wrote = c.in-Ok-true.ensures.ok c.in-Ok-true.field-0-test in
     inl (
       refl,
-      wrote_tried l.settings.now l.recorders.opening l.recorders.clients.items c.requires.fits
+      wrote_tried l.settings.now l.summary l.recorders.opening l.recorders.clients.items c.requires.fits
           c.requires.noted.calls _ _ c.requires.whole c.requires.noted.setup_attempts c.requires.noted.opening
           c.requires.noted.clients
           (rw (← c.as_slice-clients.ensures.value) wrote),
@@ -24,7 +24,7 @@ returns-in-Ok-false g c =
     let unfit = c.in-Ok-false.ensures.unfit c.in-Ok-false.field-0-test in
     inr (
       c.end_long_attempt.ensures.status,
-      inr (has_long l.settings.now l.recorders.opening
+      inr (has_long l.settings.now l.summary l.recorders.opening
           l.recorders.clients.items c.requires.fits c.requires.noted.calls _
           (g.O.Write.contents c.write_attempts.new.output)
           _ unfit.1 (rw (← c.as_slice-clients.ensures.value) unfit.0) c.end_long_attempt.ensures.line),
@@ -33,7 +33,8 @@ returns-in-Ok-false g c =
 pub returns-in-Err : goal.returns-in-Err
 returns-in-Err g c =
     let l = c.args.load.now in
-    let written = wrote_tried_in_part l.settings.now l.recorders.opening l.recorders.clients.items c.requires.fits
+    let written = wrote_tried_in_part l.settings.now l.summary l.recorders.opening l.recorders.clients.items
+    c.requires.fits
     c.requires.noted.calls _ _ c.requires.whole c.requires.noted.setup_attempts c.requires.noted.opening
     c.requires.noted.clients
     (rw (← c.as_slice-clients.ensures.value) c.in-Err.ensures.err) in

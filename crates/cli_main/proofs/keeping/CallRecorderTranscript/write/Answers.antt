@@ -7,9 +7,11 @@ use Rattle.cli_main.proofs.keeping.CallRecorderTranscript.write.Goals as goal
 pub returns : goal.returns
 returns g c =
     let l = c.args.load.now in
-    ended_writing WroteCalls WroteCallsInPart l.settings.now c.write_history-written.result c.end_done.result _ _ _
-    (on_ok _ _ c.write_history-written.result (wrote_calls l.settings.now l.recorders.opening l.recorders.clients.items
+    ended_writing WroteCalls WroteCallsInPart l.settings.now l.summary c.write_history-written.result c.end_done.result
+    _ _ _
+    (on_ok _ _ c.write_history-written.result (wrote_calls l.settings.now l.summary l.recorders.opening
+    l.recorders.clients.items
     c.requires.fits c.requires.noted.calls _ _) (search rules))
-    (on_err _ _ c.write_history-written.result (wrote_calls_in_part l.settings.now l.recorders.opening
+    (on_err _ _ c.write_history-written.result (wrote_calls_in_part l.settings.now l.summary l.recorders.opening
     l.recorders.clients.items c.requires.fits c.requires.noted.calls _ _) (search rules))
     c.write_history-written.ensures.fault c.end_done.ensures
