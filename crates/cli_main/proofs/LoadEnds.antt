@@ -26,9 +26,9 @@ use Rattle.vac_lines.specs.Writing.{AppendsPrefix}
 use Rattle.cli_main.specs.Ending.{load_fault_line, fault_line, CanStopWriting, EndsDone, EndsWithStatus}
 use Rattle.cli_options.specs.declared.asked.LoadOutput.{LoadOutput}
 use Rattle.cli_main.specs.declared.stats.LoadSummary.{LoadSummary}
-use Rattle.cli_main.specs.Statistics.{load_text, summary_text}
-use Rattle.cli_main.specs.Load.{EndsLoad, StoppedKept, HasNoted, IsFaultBySeed, WritesNothingUnlessProgress}
-use Rattle.cli_main.specs.Load.{WritesPrefixUnlessProgress}
+use Rattle.cli_main.specs.Statistics.{load_text, summary_text, task_count, WritesProgress, no_line}
+use Rattle.cli_main.specs.Load.{EndsLoad, StoppedKept, HasNoted, IsFaultBySeed, ReportsProgress}
+use Rattle.cli_main.specs.Load.{ReportsEnd}
 use Rattle.cli_main.specs.Load.{LoadWriting}
 use Rattle.cli_main.specs.Load.{WroteCalls, WroteCallsInPart, WroteLoad, WroteLoadInPart}
 use Rattle.cli_main.proofs.Turning.{each_ordered, each_in_turn}
@@ -59,7 +59,7 @@ module _ (wrote stopped : LoadWriting) (how : LoadOutput) (s : Settings) (fits :
   pub ended_by_fault : (fault : LoadFault) (status : ℕ) (held holds told tells : Option (List ℕ)) →
       (fault ≡ load.Arguments → ⊥) → IsFaultBySeed s fault → 1 ≤ status → status ≤ 2
       → ((status ≡ 2) ↔ (fault ≡ load.Arguments)) → AppendsPrefix held holds (load_fault_line fault) →
-      WritesNothingUnlessProgress how.progress told tells → EndsLoad wrote stopped how status s held holds told tells
+      ReportsProgress how.progress s told tells → EndsLoad wrote stopped how status s held holds told tells
   ended_by_fault fault status held holds told tells is_not why low high refused line silent = inl (
     fits,
     inr (
@@ -71,7 +71,7 @@ module _ (wrote stopped : LoadWriting) (how : LoadOutput) (s : Settings) (fits :
   -- for want of memory
   pub ended_for_memory : (status : ℕ) (held holds told tells : Option (List ℕ)) → 1 ≤ status → status ≤ 2
       → ((status ≡ 2) ↔ (load.Memory ≡ load.Arguments)) →
-      AppendsPrefix held holds (load_fault_line load.Memory) → WritesNothingUnlessProgress how.progress told tells →
+      AppendsPrefix held holds (load_fault_line load.Memory) → ReportsProgress how.progress s told tells →
       EndsLoad wrote stopped how status s held holds told tells
   ended_for_memory status held holds told tells low high refused line silent =
       ended_by_fault load.Memory status held holds told tells not_arguments (memory_by_seed s) low high refused line
@@ -80,7 +80,7 @@ module _ (wrote stopped : LoadWriting) (how : LoadOutput) (s : Settings) (fits :
   -- after its calls were written or not
   pub ended_kept : (n : LoadSummary) (status : ℕ) (held holds told tells : Option (List ℕ)) →
       AreStatistics s.tries n.report.outcomes n.statistics →
-      WritesPrefixUnlessProgress how.progress (summary_text how n) told tells →
+      ReportsEnd how.progress s (summary_text how n) told tells →
       EndsWithStatus status (wrote s n held holds) (stopped s n held holds) →
       EndsLoad wrote stopped how status s held holds told tells
   ended_kept n status held holds told tells fit end (inl done) =
@@ -88,25 +88,16 @@ module _ (wrote stopped : LoadWriting) (how : LoadOutput) (s : Settings) (fits :
   ended_kept n status held holds told tells fit end (inr k) =
       inl (fits, inr (k.0, inr (record { summary = n; fit = fit; wrote = k.1; lines = end })))
 
--- where nothing is written, no standard error changes
-pub silent_from : (progress : Bool) (told tells : Option (List ℕ)) → tells ≡ told →
-    WritesNothingUnlessProgress progress told tells
-silent_from true told tells same = tt
-silent_from false told tells same = same
+-- nothing was written yet
+pub reports_nothing : (progress : Bool) (s : Settings) (told : Option (List ℕ)) → ReportsProgress progress s told told
+reports_nothing true s told = no_line
+reports_nothing false s told = refl
 
--- where progress is reported, nothing is said
-pub silent_if : (progress : Bool) (told tells : Option (List ℕ)) → not progress ≡ false →
-    WritesNothingUnlessProgress progress told tells
-silent_if true told tells is = tt
-silent_if false told tells is = absurd (let n : true ≡ false = is in cc)
-
--- the lines about the end come behind what was there, unless progress lines did
-pub told_behind : (progress : Bool) (text : List ℕ) (told middle tells : Option (List ℕ)) →
-    WritesNothingUnlessProgress progress told middle → AppendsPrefix middle tells text →
-    WritesPrefixUnlessProgress progress text told tells
-told_behind true text told middle tells silent line = tt
-told_behind false text told middle tells silent line =
-    subst (λ (o : Option (List ℕ)). AppendsPrefix o tells text) silent line
+-- lines of progress were written
+pub reports_lines : (progress : Bool) (s : Settings) (told tells : Option (List ℕ)) → not progress ≡ false →
+    WritesProgress (task_count s) told tells → ReportsProgress progress s told tells
+reports_lines true s told tells is lines = lines
+reports_lines false s told tells is lines = absurd (let n : true ≡ false = is in cc)
 
 -- calls were written, in whole or in part, and then the program ended
 pub ended_writing : (wrote in_part : LoadWriting) (s : Settings) (n : LoadSummary)

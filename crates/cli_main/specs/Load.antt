@@ -1,5 +1,5 @@
 -- The output of a load.
-use Rattle.std.specs.Prelude.{◌≡◌, ◌≢◌, ◌↔◌, ℕ, ◌⊎◌, ⊤, Bool, true, false, List, ◌∷◌, map}
+use Rattle.std.specs.Prelude.{◌≡◌, ◌≢◌, ◌↔◌, ℕ, ◌⊎◌, Bool, true, false, List, ◌∷◌, map}
 use Rattle.std.specs.Prelude.{[], length, Option, Some, None, All, vec_len, Result, IfOk, IfErr}
 use Rattle.std.specs.Prelude.{IsErrOf}
 use Rattle.std.specs.Io.KnownBytes.{Appends}
@@ -12,7 +12,6 @@ use Rattle.load_tasks.specs.Setting.{is_settings}
 use Rattle.load_tasks.specs.Streams.{gives, stream_of}
 use Rattle.stm_core.specs.Client.{Record, Aborted}
 use Rattle.vac_manager.specs.declared.note.CompletedCall.{CompletedCall}
-use Rattle.vac_manager.specs.declared.note.TracedAttempt.{TracedAttempt}
 use Rattle.vac_manager.specs.Placed.{CommitPosition}
 use Rattle.vac_manager.specs.Keeping.{IsNoted}
 use Rattle.vac_manager.specs.Tracing.{Trace, trace_of}
@@ -43,7 +42,7 @@ use Rattle.vac_lines.specs.Writing.{AppendsPrefix}
 use Rattle.vac_lines.specs.declared.stream_fault.StreamFault.TheVariants.{Memory}
 use Rattle.cli_options.specs.declared.asked.LoadOutput.{LoadOutput}
 use Rattle.cli_main.specs.declared.stats.LoadSummary.{LoadSummary}
-use Rattle.cli_main.specs.Statistics.{load_text, summary_text}
+use Rattle.cli_main.specs.Statistics.{load_text, summary_text, task_count, WritesProgress}
 use Rattle.cli_main.specs.Ending.{EndsWithStatus, NamedAfterWriting, fault_line, load_fault_line}
 use Rattle.cli_main.specs.Ending.{long_attempt_line}
 
@@ -101,22 +100,23 @@ abbrev pub NamedFault : Settings → Option (List ℕ) → Option (List ℕ) →
 NamedFault s held holds = (fault : LoadFault) × (fault ≢ load.Arguments)
     × IsFaultBySeed s fault × AppendsPrefix held holds (load_fault_line fault)
 
--- nothing was written to standard error, unless the load reports its progress
-abbrev pub WritesNothingUnlessProgress : Bool → Option (List ℕ) → Option (List ℕ) → Type 0
-WritesNothingUnlessProgress true told tells = ⊤
-WritesNothingUnlessProgress false told tells = tells ≡ told
+-- what a load of these settings writes to standard error before its end: prefixes of lines of
+-- progress if it reports its progress, and nothing otherwise
+abbrev pub ReportsProgress : Bool → Settings → Option (List ℕ) → Option (List ℕ) → Type 0
+ReportsProgress true s told tells = WritesProgress (task_count s) told tells
+ReportsProgress false s told tells = tells ≡ told
 
--- a prefix of this text and nothing else was written to standard error, unless the load reports its
--- progress
-abbrev pub WritesPrefixUnlessProgress : Bool → List ℕ → Option (List ℕ) → Option (List ℕ) → Type 0
-WritesPrefixUnlessProgress true text told tells = ⊤
-WritesPrefixUnlessProgress false text told tells = AppendsPrefix told tells text
+-- such lines and, behind them, a prefix of this text were written to standard error, and nothing
+-- else
+abbrev pub ReportsEnd : Bool → Settings → List ℕ → Option (List ℕ) → Option (List ℕ) → Type 0
+ReportsEnd progress s text told tells =
+    (middle : Option (List ℕ)) × ReportsProgress progress s told middle
+    × AppendsPrefix middle tells text
 
 -- a load of these settings ran to its end with a summary for which `writing` holds. Its attempt
--- statistics fit the counts of its tasks, and a prefix of the lines about its end was written to
--- standard error
--- Not said: what is written to standard error if the load reports its progress; that the lines are
--- written at all. Tests look at both.
+-- statistics fit the counts of its tasks, and its progress, if it reports that, and a prefix of the
+-- lines about its end were written to standard error
+-- Not said: that the lines are written at all. Tests look at that.
 -- Not said: that the attempts and conflicts are those that were made, and of which kind; that the
 -- nanoseconds are those that the clients took.
 pub record CompletedLoad (how : LoadOutput) (s : Settings) (told tells : Option (List ℕ))
@@ -124,7 +124,7 @@ pub record CompletedLoad (how : LoadOutput) (s : Settings) (told tells : Option 
   pub summary : LoadSummary
   pub fit : AreStatistics s.tries summary.report.outcomes summary.statistics
   pub wrote : writing summary
-  pub lines : WritesPrefixUnlessProgress how.progress (summary_text how summary) told tells
+  pub lines : ReportsEnd how.progress s (summary_text how summary) told tells
 
 -- what a load of these settings and with this summary wrote to the output
 abbrev pub LoadWriting : Type 1
@@ -132,8 +132,8 @@ LoadWriting = Settings → LoadSummary → Option (List ℕ) → Option (List �
 
 -- a load with fitting settings is run: its result is written, or a fault ends it and is named, or
 -- `stopped` describes its end; if the settings do not fit each other, the command line is refused.
--- If a fault ends the load before its result is written, nothing is written to standard error,
--- unless the load reports its progress
+-- If a fault ends the load before its result is written, only its progress is written to standard
+-- error, if it reports that
 -- Not said: what is written to standard error about a refused command line.
 abbrev pub EndsLoad : (wrote stopped : LoadWriting) → LoadOutput → ℕ → Settings
     → Option (List ℕ) → Option (List ℕ) → Option (List ℕ) → Option (List ℕ) → Type 0
@@ -141,7 +141,7 @@ EndsLoad wrote stopped how status s held holds told tells =
     ((is_settings s ≡ true)
     × EndsWithStatus status
     (CompletedLoad how s told tells (λ n. wrote s n held holds))
-    ((NamedFault s held holds × WritesNothingUnlessProgress how.progress told tells)
+    ((NamedFault s held holds × ReportsProgress how.progress s told tells)
     ⊎ CompletedLoad how s told tells (λ n. stopped s n held holds)))
     ⊎ ((is_settings s ≡ false) × (status ≡ 2)
     × AppendsPrefix held holds (load_fault_line load.Arguments))

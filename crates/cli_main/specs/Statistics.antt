@@ -1,5 +1,8 @@
 -- The lines about the end of a load: the line of statistics, and the two lines of the load.
-use Rattle.std.specs.Prelude.{ℕ, ◌*◌, ◌/◌, ◌%◌, ◌==◌, ◌||◌, ◌++◌, List, [], codes, decimal, if◌then◌else◌}
+use Rattle.std.specs.Prelude.{ℕ, ◌-◌, ◌*◌, ◌/◌, ◌%◌, ◌^◌, ◌==◌, ◌||◌, ◌++◌, min, List, [], codes, decimal}
+use Rattle.std.specs.Prelude.{Option, if◌then◌else◌}
+use Rattle.load_tasks.specs.declared.settings.Settings.{Settings}
+use Rattle.vac_lines.specs.Writing.{AppendsPrefix}
 use Rattle.vac_lines.specs.Script.{as_line}
 use Rattle.vac_lines.specs.Text.{field_text, report_text}
 use Rattle.load_run.specs.declared.outcomes.Outcomes.{Outcomes}
@@ -96,6 +99,24 @@ attempt_figures_text n = statistics_text n.statistics ++ attempts_per_task_text 
 -- the statistics of a load
 abbrev pub stats_text : LoadSummary → List ℕ
 stats_text n = timing_text n ++ attempt_figures_text n
+
+-- a line of progress: the number of completed tasks, and the number of all tasks
+abbrev pub progress_line : ℕ → ℕ → List ℕ
+progress_line answered all =
+    as_line (field_text (codes "answered ") answered ++ field_text (codes " of ") all)
+
+-- the number of tasks of all clients in all rounds, or the largest number of 64 bits if it is less
+abbrev pub task_count : Settings → ℕ
+task_count s = min (s.rounds * s.tasks * s.clients) (2 ^ 64 - 1)
+
+-- prefixes of lines of progress were written, one after the other, and nothing else; each line
+-- names this number of all tasks
+-- Not said: the numbers of completed tasks; how many lines there are, and when they are written.
+pub data WritesProgress (all : ℕ) : Option (List ℕ) → Option (List ℕ) → Type 0 where
+  no_line : {told : Option (List ℕ)} → WritesProgress all told told
+  one_more : {told middle tells : Option (List ℕ)} (answered : ℕ) →
+      WritesProgress all told middle →
+      AppendsPrefix middle tells (progress_line answered all) → WritesProgress all told tells
 
 -- the lines about the end of a load on standard error: its statistics if they are asked for, and
 -- its two lines if its history or its attempts go to the output

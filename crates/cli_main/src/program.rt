@@ -48,8 +48,8 @@ const UNKNOWN_LEVEL: &[u8] = b"error: --level is linearizable, sequential or ser
 /// Not said: that the attempts and conflicts of `--stats` are those that were made, and its seconds
 /// those that the clients took.
 ///
-/// Not said: what is written to `errors` with `--progress`, by `part` and `tasks`, or about a
-/// refused command line.
+/// Not said: what a search writes to `errors` with `--progress`; what `part` and `tasks` write
+/// there; what is written there about a refused command line.
 pub fn run_words<
     T: Threads + Wait + Clock + Sync + AllocGlobal,
     R: Read,

@@ -1,13 +1,17 @@
 //! Loads that write progress lines while they run.
 
+ghost use Rattle.std.specs.Prelude.{◌≡◌, ◌++◌, IfOk, IfSome, OnOk};
 ghost use Rattle.load_run.specs.Keeping.{contents};
-ghost use Rattle.cli_main.specs.Load.{HasRun, RunsKept, WritesNothingUnlessProgress};
+ghost use Rattle.vac_lines.specs.Writing.{AppendsPrefix};
+ghost use Rattle.cli_main.specs.Load.{HasRun, RunsKept, ReportsProgress};
+ghost use Rattle.cli_main.specs.Statistics.{WritesProgress, progress_line, task_count};
 
 use crate::stats::LoadTimer;
+use crate::status::write_last;
 use cli_options::LoadOutput;
 use load_run::{AttemptStatistics, Load, LoadFault, LoadReport, Recorders};
 use load_tasks::{PcgDraws, Settings};
-use std::alloc::Global;
+use std::alloc::{AllocError, Global};
 use std::io::Write;
 use std::sync::Wait;
 use std::sync::atomic::{AtomicBool, AtomicU64, Ordering};
@@ -15,6 +19,7 @@ use std::thread;
 use std::thread::{Parker, Threads};
 use std::time::{Clock, Duration, Instant};
 use stm_attempt::{Gate, Point};
+use vac_lines::append_field;
 use vac_manager::Recorder;
 
 /// Least time between two lines, in milliseconds.
@@ -79,7 +84,9 @@ impl Progress {
 
     /// Writes a line each time the pause has passed, until the load has ended. If the time cannot
     /// be read, nothing is written.
-    fn tell<T: Wait + Clock + AllocGlobal, E: Write>(&self, rt: &T, all: u64, errors: &mut E) {
+    fn tell<T: Wait + Clock + AllocGlobal, E: Write>(&self, rt: &T, all: u64, errors: &mut E)
+        ensures { WritesProgress all (E.contents errors.old) (E.contents errors.new) }
+    {
         let mut last = Instant::now(rt).ok();
         for _ in rt.forever() {
             self.teller.park_timeout(rt, pause());
@@ -111,20 +118,41 @@ pub(crate) fn has_passed<T: Clock>(rt: &T, last: Option<Instant>) -> bool {
     }
 }
 
-/// Writes the number of completed tasks and the number of all tasks. If memory or the write is
-/// refused, only the line is lost.
-fn write_line<E: Write>(alloc: Global, answered: u64, all: u64, errors: &mut E) {
-    let Ok(line) = format!(in alloc; "answered {answered} of {all}\n") else {
-        return;
-    };
-    if errors.write_all(line.as_bytes()).is_ok() {
-        let _ = errors.flush();
+/// Appends a line of progress.
+fn append_progress(out: &mut Vec<u8>, answered: u64, all: u64) -> Result<(), AllocError>
+    ensures { OnOk result (out.new.items ≡ out.old.items ++ progress_line answered all) }
+{
+    append_field(out, b"answered ", answered)?;
+    append_field(out, b" of ", all)?;
+    out.extend_from_slice(b"\n")
+}
+
+/// Returns a line of progress.
+fn progress_text(alloc: Global, answered: u64, all: u64) -> Result<Vec<u8>, AllocError>
+    ensures { IfOk result (λ text. text.items ≡ progress_line answered all) }
+{
+    let mut text = Vec::new(alloc);
+    append_progress(&mut text, answered, all)?;
+    Ok(text)
+}
+
+/// Writes a line of progress: the number of completed tasks and the number of all tasks. If memory
+/// or the write is refused, only the line is lost.
+#[tactic(auto, using(crate::proofs::Reported::none_of, crate::proofs::Reported::shown))]
+fn write_line<E: Write>(alloc: Global, answered: u64, all: u64, errors: &mut E)
+    ensures { AppendsPrefix (E.contents errors.old) (E.contents errors.new)
+        (progress_line answered all) }
+{
+    if let Ok(text) = progress_text(alloc, answered, all) {
+        write_last(text.as_slice(), errors);
     }
 }
 
-/// Returns the number of tasks of a load.
-fn all_tasks(settings: &Settings) -> u64 {
-    let of_one = u64::from(settings.rounds).saturating_mul(u64::from(settings.tasks));
+/// Returns the number of tasks of a load, or the largest number of 64 bits if it is less.
+fn all_tasks(settings: &Settings) -> u64
+    ensures { result ≡ task_count settings.now }
+{
+    let of_one = u64::from(settings.rounds) * u64::from(settings.tasks);
     of_one.saturating_mul(u64::from(settings.clients))
 }
 
@@ -149,7 +177,7 @@ pub(crate) fn run_with_progress<
 where
     K::Tracing: Send,
     ensures kept { RunsKept (contents K.notes K.traced K.latest) settings.now recorders result }
-    ensures silent { WritesNothingUnlessProgress how.progress
+    ensures progress { ReportsProgress how.progress settings.now
         (E.contents errors.old) (E.contents errors.new) }
 {
     if !how.progress {
@@ -157,16 +185,47 @@ where
         return load.run(rt);
     }
     let progress = Progress::new();
+    let shared = &progress;
     let counter = Counter {
-        answered: &progress.answered,
+        answered: &shared.answered,
         gate: span,
     };
     let load = Load::by_seed(rt.alloc(), settings, counter, recorders)?;
-    let (shared, all) = (&progress, all_tasks(settings));
-    let tell = || shared.tell(rt, all, errors);
-    let run = move || -> Result<(LoadReport, AttemptStatistics, Recorders<K>), LoadFault>
-        ensures { HasRun (contents K.notes K.traced K.latest) load.entry result }
-    { shared.run(rt, load) };
-    let ((), loaded) = thread::join(rt, tell, run);
+    run_telling(rt, shared, load, all_tasks(settings), errors)
+}
+
+/// Runs the load, and writes progress lines meanwhile.
+fn run_telling<
+    T: Threads + Wait + Clock + Sync + AllocGlobal,
+    G: Gate + Send + Drop,
+    K: Recorder + Send + Drop,
+    E: Write + Send,
+>(
+    rt: &T,
+    progress: &Progress,
+    load: Load<PcgDraws, G, K>,
+    all: u64,
+    errors: &mut E,
+) -> Result<(LoadReport, AttemptStatistics, Recorders<K>), LoadFault>
+where
+    K::Tracing: Send,
+    ensures run { HasRun (contents K.notes K.traced K.latest) load result }
+    ensures lines { WritesProgress all (E.contents errors.old) (E.contents errors.new) }
+{
+    let mut waiting = Some(load);
+    let mut tell = ||
+        ensures { WritesProgress all (E.contents errors.entry.now) (E.contents errors.exit.now) }
+    { progress.tell(rt, all, errors) };
+    // Called once; a closure that moved the load out of itself could not be lent.
+    let mut run = || -> Result<(LoadReport, AttemptStatistics, Recorders<K>), LoadFault>
+        ensures { IfSome waiting.entry (λ load.
+            HasRun (contents K.notes K.traced K.latest) load result) }
+    {
+        match waiting.take() {
+            Some(load) => progress.run(rt, load),
+            None => Err(LoadFault::Memory),
+        }
+    };
+    let ((), loaded) = thread::join_mut(rt, &mut tell, &mut run);
     loaded
 }

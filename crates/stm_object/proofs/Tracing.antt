@@ -15,7 +15,7 @@ use Rattle.stm_attempt.specs.declared.conflict.Stop.{Stop}
 use Rattle.stm_region.specs.Findings.{StandsOn}
 use Rattle.stm_attempt.specs.Meaning.{memory_of, IsStanding, Origin, origin_of}
 use Rattle.stm_object.specs.Tracing.{Trace, HasNoAccess, AppendsTrace, IsOfAdded, IsOfEnd, AreAborted, AreOfEnd}
-use Rattle.stm_object.specs.Tracing.{HasTraced, IsReaderAt, IsTraceOfAborted, IsNextAborted, IsListedAborted}
+use Rattle.stm_object.specs.Tracing.{HasTraced, IsReaderAt, IsTraceOfAborted, IsListedAborted}
 use Rattle.stm_object.specs.Tracing.{AreMadeInTurn}
 use Rattle.stm_object.specs.History.{AddsAborted, AddsNoAborted}
 use Rattle.stm_object.specs.declared.place.CommitPosition.{CommitPosition}

@@ -1,11 +1,10 @@
-use Rattle.std.proofs.Common.{rules, ◌≡◌, ◌≤◌, true, refl, length, vec_len, arith}
+use Rattle.std.proofs.Common.{rules, ◌≡◌, ◌≤◌, true, length, vec_len, arith}
 use Rattle.load_tasks.specs.Setting.{is_settings}
 use Rattle.load_run.specs.declared.load.LoadFault.TheVariants as load
 use Rattle.load_run.specs.Keeping.{contents}
 use Rattle.cli_main.specs.declared.stats.LoadSummary.{LoadSummary}
 use Rattle.cli_main.proofs.Kept.{noted, same_clients}
-use Rattle.cli_main.proofs.LoadEnds.{ended_for_memory, ended_kept, ended_by_fault, few_clients, silent_from}
-use Rattle.cli_main.proofs.LoadEnds.{told_behind}
+use Rattle.cli_main.proofs.LoadEnds.{ended_for_memory, ended_kept, ended_by_fault, few_clients, reports_nothing}
 use Rattle.cli_main.proofs.Ledgers.{not_refused}
 use Rattle.cli_main.proofs.load.LoadRequest.keep.Goals as goal
 
@@ -16,7 +15,7 @@ returns-in_default g c =
     let told = g.E.Write.contents c.args.errors.now in
     ended_for_memory g.K.Transcript.wrote g.K.Transcript.stopped how c.args.self.now.settings.now
     (search rules) _ (g.W.Write.contents c.args.output.now) (g.W.Write.contents c.end_load_by.new.output) told told
-    e.low e.high e.refused e.line (silent_from how.progress told told refl)
+    e.low e.high e.refused e.line (reports_nothing how.progress c.args.self.now.settings.now told)
 
 pub returns-then-not-are_whole : goal.returns-then-not-are_whole
 returns-then-not-are_whole g c =
@@ -25,7 +24,7 @@ returns-then-not-are_whole g c =
     (search rules) _ (g.W.Write.contents c.args.output.now)
     (g.W.Write.contents c.end_load_by-then-not-are_whole.new.output)
     (g.E.Write.contents c.args.errors.now) (g.E.Write.contents c.run_with_progress.new.errors)
-    e.low e.high e.refused e.line c.in-Ok-run_with_progress.ensures.silent
+    e.low e.high e.refused e.line c.in-Ok-run_with_progress.ensures.progress
 
 pub write-requires : goal.write-requires
 write-requires g c =
@@ -67,8 +66,8 @@ returns g c =
     ended_kept g.K.Transcript.wrote g.K.Transcript.stopped how c.args.self.now.settings.now (search rules) summary
     c.write.result (g.W.Write.contents c.args.output.now) (g.W.Write.contents c.write.new.output) told tells
     c.in-Ok-run_with_progress.ensures.kept.statistics
-    (told_behind how.progress _ told (g.E.Write.contents c.run_with_progress.new.errors) tells
-    c.in-Ok-run_with_progress.ensures.silent c.tell_summary.ensures) c.write.ensures
+    (g.E.Write.contents c.run_with_progress.new.errors, c.in-Ok-run_with_progress.ensures.progress,
+    c.tell_summary.ensures) c.write.ensures
 
 pub returns-in-Err : goal.returns-in-Err
 returns-in-Err g c =
@@ -82,4 +81,4 @@ returns-in-Err g c =
     c.end_load_by-in-Err.result (g.W.Write.contents c.args.output.now)
     (g.W.Write.contents c.end_load_by-in-Err.new.output)
     (g.E.Write.contents c.args.errors.now) (g.E.Write.contents c.run_with_progress.new.errors) is_not
-    c.in-Err.ensures.kept.refused e.low e.high e.refused e.line c.in-Err.ensures.silent
+    c.in-Err.ensures.kept.refused e.low e.high e.refused e.line c.in-Err.ensures.progress

@@ -1,10 +1,9 @@
-use Rattle.std.proofs.Common.{rules, ◌≡◌, true, refl, vec_len}
+use Rattle.std.proofs.Common.{rules, ◌≡◌, true, vec_len}
 use Rattle.load_tasks.specs.Setting.{is_settings}
 use Rattle.load_run.specs.declared.load.LoadFault.TheVariants as load
 use Rattle.cli_main.specs.declared.stats.LoadSummary.{LoadSummary}
 use Rattle.cli_main.specs.Load.{WroteLoad, WroteLoadInPart}
-use Rattle.cli_main.proofs.LoadEnds.{ended_for_memory, ended_kept, ended_by_fault, written_lines, silent_from}
-use Rattle.cli_main.proofs.LoadEnds.{told_behind}
+use Rattle.cli_main.proofs.LoadEnds.{ended_for_memory, ended_kept, ended_by_fault, written_lines, reports_nothing}
 use Rattle.cli_main.proofs.Ledgers.{not_refused}
 use Rattle.cli_main.proofs.load.LoadRequest.report.Goals as goal
 
@@ -14,7 +13,7 @@ returns-in_default g c =
     let told = g.E.Write.contents c.args.errors.now in
     ended_for_memory WroteLoad WroteLoadInPart c.args.self.now.how c.args.self.now.settings.now (search rules) _
     (g.W.Write.contents c.args.output.now) (g.W.Write.contents c.end_load_by.new.output) told told
-    e.low e.high e.refused e.line (silent_from c.args.self.now.how.progress told told refl)
+    e.low e.high e.refused e.line (reports_nothing c.args.self.now.how.progress c.args.self.now.settings.now told)
 
 pub returns-in-Ok-run_with_progress : goal.returns-in-Ok-run_with_progress
 returns-in-Ok-run_with_progress g c =
@@ -31,9 +30,8 @@ returns-in-Ok-run_with_progress g c =
     } in
     ended_kept WroteLoad WroteLoadInPart how s (search rules) summary c.write_load.result held holds
     (g.E.Write.contents c.args.errors.now) (g.E.Write.contents c.tell_summary.new.errors) kept.statistics
-    (told_behind how.progress _ (g.E.Write.contents c.args.errors.now)
-    (g.E.Write.contents c.run_with_progress.new.errors)
-    (g.E.Write.contents c.tell_summary.new.errors) c.in-Ok-run_with_progress.ensures.silent c.tell_summary.ensures)
+    (g.E.Write.contents c.run_with_progress.new.errors, c.in-Ok-run_with_progress.ensures.progress,
+    c.tell_summary.ensures)
     (written_lines s summary c.write_load.result held holds kept.kept.loaded kept.kept.made e.status e.done e.stopped)
 
 pub returns : goal.returns
@@ -46,4 +44,4 @@ returns g c =
     ended_by_fault WroteLoad WroteLoadInPart c.args.self.now.how s fits c.in-Err.fault c.end_load_by-in-Err.result
     (g.W.Write.contents c.args.output.now) (g.W.Write.contents c.end_load_by-in-Err.new.output)
     (g.E.Write.contents c.args.errors.now) (g.E.Write.contents c.run_with_progress.new.errors) is_not
-    c.in-Err.ensures.kept.refused e.low e.high e.refused e.line c.in-Err.ensures.silent
+    c.in-Err.ensures.kept.refused e.low e.high e.refused e.line c.in-Err.ensures.progress
