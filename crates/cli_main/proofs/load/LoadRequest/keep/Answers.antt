@@ -65,9 +65,11 @@ returns g c =
     } in
     ended_kept g.K.Transcript.wrote g.K.Transcript.stopped how c.args.self.now.settings.now (search rules) summary
     c.write.result (g.W.Write.contents c.args.output.now) (g.W.Write.contents c.write.new.output) told tells
-    c.in-Ok-run_with_progress.ensures.kept.statistics
-    (g.E.Write.contents c.run_with_progress.new.errors, c.in-Ok-run_with_progress.ensures.progress,
-    c.tell_summary.ensures) c.write.ensures
+    c.in-Ok-run_with_progress.ensures.kept.statistics (
+      g.E.Write.contents c.run_with_progress.new.errors,
+      c.in-Ok-run_with_progress.ensures.progress,
+      c.tell_summary.ensures,
+    ) c.write.ensures
 
 pub returns-in-Err : goal.returns-in-Err
 returns-in-Err g c =

@@ -29,9 +29,11 @@ returns-in-Ok-run_with_progress g c =
       statistics = c.in-Ok-run_with_progress.statistics;
     } in
     ended_kept WroteLoad WroteLoadInPart how s (search rules) summary c.write_load.result held holds
-    (g.E.Write.contents c.args.errors.now) (g.E.Write.contents c.tell_summary.new.errors) kept.statistics
-    (g.E.Write.contents c.run_with_progress.new.errors, c.in-Ok-run_with_progress.ensures.progress,
-    c.tell_summary.ensures)
+    (g.E.Write.contents c.args.errors.now) (g.E.Write.contents c.tell_summary.new.errors) kept.statistics (
+      g.E.Write.contents c.run_with_progress.new.errors,
+      c.in-Ok-run_with_progress.ensures.progress,
+      c.tell_summary.ensures,
+    )
     (written_lines s summary c.write_load.result held holds kept.kept.loaded kept.kept.made e.status e.done e.stopped)
 
 pub returns : goal.returns
