@@ -1,4 +1,4 @@
--- The lines about the end of a load: the line of statistics, and the two lines of the load.
+-- The lines of a load on standard error: its progress, its statistics, and its two lines.
 use Rattle.std.specs.Prelude.{ℕ, ◌-◌, ◌*◌, ◌/◌, ◌%◌, ◌^◌, ◌==◌, ◌||◌, ◌++◌, min, List, [], codes, decimal}
 use Rattle.std.specs.Prelude.{Option, if◌then◌else◌}
 use Rattle.load_tasks.specs.declared.settings.Settings.{Settings}

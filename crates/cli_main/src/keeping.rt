@@ -40,7 +40,7 @@ pub(crate) struct KeptLoad<'a, K> {
 /// A recorder of a client's calls that reads times from a clock, and writes the calls of a whole
 /// load.
 pub(crate) trait Transcript<W>: Recorder + Sized {
-    /// The calls of a load of these settings, which ended with these numbers, were written.
+    /// The calls of a load of these settings, which ended with this summary, were written.
     ghost wrote: { Settings → LoadSummary → Option (List ℕ) → Option (List ℕ) → Type 0 };
 
     /// The calls of such a load were not all written, and a fault was named.
