@@ -1,7 +1,10 @@
 #!/usr/bin/env python3
-"""Lists every clause of every public call, one on a line, so that two states of the tree can be compared.
+"""Lists every clause of every public call, one on a line, so that two states of the tree can be compared. Then lists
+what each implementation of a trait states by `ghost NAME = {..}`, for example the text that a `Display` writes; crates
+`test_..` are left out.
 
-    tools/contracts.py                  all clauses: CRATE FUNCTION requires|ensures NAME: TEXT
+    tools/contracts.py                  all clauses: CRATE FUNCTION requires|ensures NAME: TEXT,
+                                        and CRATE TRAIT for TYPE states NAME: TEXT
     tools/contracts.py --write          writes them into docs/clauses.txt, so that a review shows each clause that went
     tools/contracts.py --check          compares docs/clauses.txt with the tree; status 1 if they differ
     tools/contracts.py --since REV      what changed since a commit: clauses that went (-) and that came (+);
@@ -39,16 +42,19 @@ class Line:
 
 
 def lines_of(root):
-    """The clauses of all public calls of the tree at this folder."""
+    """The clauses of all public calls of the tree at this folder, and what its implementations state."""
     ledger.ROOT, ledger.CRATES = root, root / "crates"
     # What the ledger remembers is of the tree that it read before.
     for remembered in vars(ledger).values():
         if hasattr(remembered, "cache_clear"):
             remembered.cache_clear()
-    return [Line(f"{crate} {function.title()}", clause.kind, clause.name, clause.text)
-            for crate in ledger.listed_crates() for file in ledger.sources(crate)
-            for function in ledger.functions(file) if ledger.is_public(function)
-            for clause in function.clauses]
+    clauses = [Line(f"{crate} {function.title()}", clause.kind, clause.name, clause.text)
+               for crate in ledger.listed_crates() for file in ledger.sources(crate)
+               for function in ledger.functions(file) if ledger.is_public(function)
+               for clause in function.clauses]
+    return clauses + [Line(f"{crate} {stated.head}", "states", stated.name, stated.text)
+                      for crate in ledger.listed_crates() if not crate.startswith("test_")
+                      for file in ledger.sources(crate) for stated in ledger.statements(file)]
 
 
 def lines_at(revision):
@@ -72,7 +78,8 @@ def print_changes(before, after):
 
 
 def snapshot():
-    """The text of the snapshot: each clause of each public call, in the order of the crates."""
+    """The text of the snapshot: each clause of each public call, in the order of the crates, then what
+    implementations state."""
     return "".join(f"{line}\n" for line in lines_of(TOP))
 
 

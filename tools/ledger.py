@@ -22,6 +22,8 @@ MOST_CLAUSE = 72
 
 # Text: comments and strings out of the way, brackets that belong together, sentences.
 
+IMPL = re.compile(r"^(?:unsafe )?impl\b", re.M)
+STATED = re.compile(r"^ *ghost (\w+) = (?=\{)", re.M)
 MASKED = re.compile(
     r"//[^\n]*"                                # a comment to the end of its line
     r"|/\*.*?\*/"                              # a comment in the line
@@ -363,6 +365,28 @@ def sources(crate):
     return sorted((CRATES / crate / "src").rglob("*.rt"))
 
 
+@dataclass(frozen=True)
+class Stated:
+    """A member that an implementation of a trait states: the trait and the type, its name and its text."""
+
+    head: str
+    name: str
+    text: str
+
+
+def statements(path):
+    """Yields what the implementations of traits in a file state by `ghost NAME = {..}`."""
+    text, hidden = read(path), masked(path)
+    for impl in IMPL.finditer(hidden):
+        body = hidden.index("{", impl.end())
+        head = " ".join(hidden[after_generics(hidden, impl.end()):body].split(" where ")[0].split())
+        if " for " not in head:
+            continue
+        for member in STATED.finditer(hidden, body, closing(hidden, body)):
+            value = text[member.end() + 1:closing(hidden, member.end()) - 1]
+            yield Stated(head, member.group(1), " ".join(value.split()))
+
+
 def root_of(crate):
     library = CRATES / crate / "src" / "lib.rt"
     return library if library.is_file() else CRATES / crate / "src" / "main.rt"
@@ -691,6 +715,14 @@ def private_section(crate, calls):
     return out
 
 
+def stated_section(crate):
+    """What the implementations of traits state, a line each."""
+    if crate.startswith("test_"):
+        return []
+    return [f"- `{stated.head}`, `{stated.name}`: {as_code(stated.text)}"
+            for path in sources(crate) for stated in statements(path)]
+
+
 def tests_section(crate):
     out = []
     for path in sources(crate):
@@ -734,6 +766,9 @@ def page_of(crate, tests, common):
         out += ["## Records that these clauses cite", ""] + records
     if more:
         out += ["## What other definitions do not say", "", *more, ""]
+    stated = stated_section(crate)
+    if stated:
+        out += ["## What implementations of traits state", "", *stated, ""]
     private = private_section(crate, calls)
     if private:
         out += ["## Private functions", "", *private, ""]

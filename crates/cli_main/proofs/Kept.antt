@@ -17,7 +17,7 @@ use Rattle.load_run.specs.Made.{AreMade, AreLeft}
 use Rattle.load_run.specs.Several.{AllKept, one_kept}
 use Rattle.load_run.specs.Load.{HaveRead}
 use Rattle.load_run.specs.Streams.{KeptBySeed}
-use Rattle.cli_main.specs.declared.stats.LoadSummary.{LoadSummary}
+use Rattle.load_run.specs.declared.summary.LoadSummary.{LoadSummary}
 use Rattle.cli_main.specs.Load.{calls_in, calls_kept, IsEmpty, HasAllAttempts, AreNoted}
 
 -- what keepers keep

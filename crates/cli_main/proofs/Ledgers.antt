@@ -42,7 +42,7 @@ use Rattle.load_record.proofs.InTurn.{judged_by_precedence}
 use Rattle.load_run.specs.declared.load.LoadFault.TheVariants as load
 use Rattle.load_run.specs.declared.load.LoadFault.{LoadFault}
 use Rattle.cli_main.specs.Ending.{long_attempt_line}
-use Rattle.cli_main.specs.declared.stats.LoadSummary.{LoadSummary}
+use Rattle.load_run.specs.declared.summary.LoadSummary.{LoadSummary}
 use Rattle.cli_main.specs.Load.{HasNoted, WroteLoadAttempts, WroteLoadAttemptsInPart, HasLongAttempt}
 use Rattle.cli_main.specs.Load.{AreAllTraces, GivenUpReadOneImage, IsWholePage}
 use Rattle.vac_manager.specs.Keeping.{IsNoted}

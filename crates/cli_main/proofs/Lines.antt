@@ -23,7 +23,7 @@ use Rattle.load_run.specs.Lists.{Paired, none, both}
 use Rattle.load_run.specs.Looping.{AreOfTasks}
 use Rattle.load_run.specs.Opening.{as_tasks}
 use Rattle.load_run.specs.Load.{Share, HasShare}
-use Rattle.cli_main.specs.declared.stats.LoadSummary.{LoadSummary}
+use Rattle.load_run.specs.declared.summary.LoadSummary.{LoadSummary}
 use Rattle.cli_main.specs.Load.{HasNoted}
 
 -- a call of this task has its line

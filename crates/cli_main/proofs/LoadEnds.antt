@@ -25,8 +25,9 @@ use Rattle.std.specs.Io.KnownBytes.{Appends}
 use Rattle.vac_lines.specs.Writing.{AppendsPrefix}
 use Rattle.cli_main.specs.Ending.{load_fault_line, fault_line, CanStopWriting, EndsDone, EndsWithStatus}
 use Rattle.cli_options.specs.declared.asked.LoadOutput.{LoadOutput}
-use Rattle.cli_main.specs.declared.stats.LoadSummary.{LoadSummary}
-use Rattle.cli_main.specs.Statistics.{load_text, summary_text, task_count, WritesProgress, no_line}
+use Rattle.load_run.specs.declared.summary.LoadSummary.{LoadSummary}
+use Rattle.load_run.specs.Summary.{load_text}
+use Rattle.cli_main.specs.Statistics.{summary_text, task_count, WritesProgress, no_line}
 use Rattle.cli_main.specs.Load.{EndsLoad, StoppedKept, HasNoted, IsFaultBySeed, ReportsProgress}
 use Rattle.cli_main.specs.Load.{ReportsEnd}
 use Rattle.cli_main.specs.Load.{LoadWriting}

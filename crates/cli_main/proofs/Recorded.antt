@@ -14,7 +14,7 @@ use Rattle.load_record.proofs.Legality.{ordered_calls_legal}
 use Rattle.load_run.specs.Lists.{Paired, none, both}
 use Rattle.load_run.specs.Several.{Interleaved, no_more, of_first, of_second}
 use Rattle.load_run.specs.Load.{InterleavedAll}
-use Rattle.cli_main.specs.declared.stats.LoadSummary.{LoadSummary}
+use Rattle.load_run.specs.declared.summary.LoadSummary.{LoadSummary}
 use Rattle.cli_main.specs.Load.{HasNoted}
 
 -- the calls are those of the records at their places

@@ -1,7 +1,7 @@
 -- The report of a judge on its log.
-use Rattle.std.proofs.Common.{◌≡◌, ◌∙◌, ◌++◌, ℕ, Bool, true, false, List, [], Option, None, Some, is_some, ap, sym}
+use Rattle.std.proofs.Common.{◌≡◌, ◌∙◌, ℕ, Bool, true, false, List, Option, None, Some, is_some, sym}
 use Rattle.std.proofs.Common.{subst, refl}
-use Rattle.std.proofs.Common.{append-nil, append_assoc}
+use Rattle.std.proofs.Common.{append-nil}
 use Rattle.vac_lines.specs.Writing.{AppendsPrefix}
 use Rattle.cli_options.specs.declared.asked.JudgeSettings.{JudgeSettings}
 use Rattle.cli_main.specs.Asking.{is_refused}
@@ -16,18 +16,6 @@ none_of (Some bytes) text = (0, sym (append-nil bytes))
 pub shown : (held holds : Option (List ℕ)) (slice items text : List ℕ) → slice ≡ items → items ≡ text →
     AppendsPrefix held holds slice → AppendsPrefix held holds text
 shown held holds slice items text e f written = subst (AppendsPrefix held holds) (e ∙ f) written
-
--- two texts behind what was there
-pub one_behind : (start middle last first second : List ℕ) → middle ≡ start ++ first → last ≡ middle ++ second →
-    last ≡ start ++ (first ++ second)
-one_behind start middle last first second f g =
-    g ∙ (ap (λ m. m ++ second) f ∙ append_assoc start first second)
-
--- a text behind another, in a list that was empty
-pub both : (start middle last first second : List ℕ) → start ≡ [] → middle ≡ start ++ first → last ≡ middle ++ second →
-    last ≡ first ++ second
-both start middle last first second e f g =
-    g ∙ ap (λ m. m ++ second) (f ∙ ap (λ s. s ++ first) e)
 
 -- the report was written to what was there, unless progress lines were
 pub beside : (progress stats asks : Bool) (status : ℕ) (held middle holds : Option (List ℕ)) →

@@ -19,7 +19,7 @@ use Rattle.load_record.specs.History.{notes_of, kept_by}
 use Rattle.load_run.specs.Lists.{Paired, none, both}
 use Rattle.load_run.specs.Load.{InterleavedAll}
 use Rattle.load_run.proofs.Merging.{first_sub, second_sub}
-use Rattle.cli_main.specs.declared.stats.LoadSummary.{LoadSummary}
+use Rattle.load_run.specs.declared.summary.LoadSummary.{LoadSummary}
 use Rattle.cli_main.specs.Load.{HasNoted}
 
 -- what stands first by three numbers, the last of which do not go back, stands first by the first two

@@ -41,8 +41,9 @@ use Rattle.load_run.specs.Streams.{LoadedBySeed, KeptBySeed}
 use Rattle.vac_lines.specs.Writing.{AppendsPrefix}
 use Rattle.vac_lines.specs.declared.stream_fault.StreamFault.TheVariants.{Memory}
 use Rattle.cli_options.specs.declared.asked.LoadOutput.{LoadOutput}
-use Rattle.cli_main.specs.declared.stats.LoadSummary.{LoadSummary}
-use Rattle.cli_main.specs.Statistics.{load_text, summary_text, task_count, WritesProgress}
+use Rattle.load_run.specs.declared.summary.LoadSummary.{LoadSummary}
+use Rattle.load_run.specs.Summary.{load_text}
+use Rattle.cli_main.specs.Statistics.{summary_text, task_count, WritesProgress}
 use Rattle.cli_main.specs.Ending.{EndsWithStatus, NamedAfterWriting, fault_line, load_fault_line}
 use Rattle.cli_main.specs.Ending.{long_attempt_line}
 

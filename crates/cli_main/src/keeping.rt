@@ -6,20 +6,20 @@ ghost use Rattle.load_tasks.specs.declared.settings.Settings.{Settings};
 ghost use Rattle.load_tasks.specs.Setting.{is_settings};
 ghost use Rattle.load_run.specs.declared.slots.Recorders.{Recorders};
 ghost use Rattle.cli_main.specs.Ending.{EndsWithStatus};
-ghost use Rattle.cli_main.specs.declared.stats.LoadSummary.{LoadSummary};
+ghost use Rattle.load_run.specs.declared.summary.LoadSummary.{LoadSummary};
 ghost use Rattle.cli_main.specs.Load.{AreNoted, EndsLoad, IsEmpty, StoppedKept};
 ghost use Rattle.cli_main.specs.Load.{WroteCalls, WroteCallsInPart, WroteLoadAttempts};
 ghost use Rattle.cli_main.specs.Load.{StoppedAttempts};
 ghost use Rattle.load_run.specs.Keeping.{contents};
 
-use crate::load::LoadRequest;
-use crate::stats::{LoadSummary, LoadTimer, tell_summary};
+use crate::load::{LoadRequest, tell_summary};
 use crate::status::{DONE, end_by, end_by_settings, end_done, end_load_by, end_long_attempt};
 use crate::telling::run_with_progress;
+use crate::timer::LoadTimer;
 use load_record::{
     AttemptRecorder, CallRecorder, ElapsedClock, StampClock, write_attempts, write_history,
 };
-use load_run::{LoadFault, Recorders};
+use load_run::{LoadFault, LoadSummary, Recorders};
 use load_tasks::Settings;
 use std::alloc::{AllocError, Global};
 use std::io::Write;

@@ -1,8 +1,7 @@
 //! The program: reads its command line, and runs the command that it asks for, over the streams
 //! that the caller gives.
 //!
-//! Scripts over streams, and the line-by-line readers and writers, are re-exported from the crates
-//! below.
+//! Scripts over streams are re-exported from the crates below.
 #![tactic(auto)]
 
 mod files;
@@ -14,13 +13,13 @@ mod parting;
 mod program;
 mod reporting;
 mod searching;
-mod stats;
 mod status;
 mod telling;
+mod timer;
 
 pub use cli_script::{check_words, dump_script, run_script};
 pub use files::Open;
 pub use judge_coverage::Watched;
 pub use laws::parts_of_illegal_verdicts_are_written_illegal;
 pub use program::{refuse_words, run_words};
-pub use vac_lines::{LineFault, StreamFault, print_reply, read_line};
+pub use vac_lines::StreamFault;

@@ -1,30 +1,29 @@
 //! A load from the command line, and the lines that the load writes.
 
-ghost use Rattle.std.specs.Prelude.{◌≡◌, ◌≤◌, ◌++◌, ◌⊎◌, OnOk};
-ghost use Rattle.cli_main.specs.Statistics.{tried_text, wanting_text};
-ghost use Rattle.cli_main.specs.Statistics.{tally_text, load_text};
+ghost use Rattle.std.specs.Prelude.{◌≡◌, ◌≤◌, ◌⊎◌, Some};
+ghost use Rattle.load_run.specs.Summary.{load_text};
+ghost use Rattle.cli_main.specs.Statistics.{stats_if, lines_if, summary_text};
 ghost use Rattle.cli_main.specs.Load.{EndsLoad, WroteLoad, WroteLoadInPart};
 ghost use Rattle.cli_main.specs.Program.{LoadsAs};
 ghost use Rattle.std.specs.Io.KnownBytes.{Appends};
 ghost use Rattle.vac_lines.specs.declared.stream_fault.StreamFault.TheVariants.{Memory};
 ghost use Rattle.cli_main.specs.Ending.{fault_line};
-ghost use Rattle.vac_lines.specs.Script.{as_line};
 ghost use Rattle.vac_lines.specs.Writing.{AppendsPrefix};
-ghost use Rattle.vac_lines.specs.Text.{report_text};
 
-use crate::stats::{LoadSummary, LoadTimer, tell_summary};
-use crate::status::{DONE, FAULT, end_by, end_by_settings, end_load_by, refuse};
+use crate::status::{DONE, FAULT, end_by, end_by_settings, end_load_by, refuse, write_text};
 use crate::telling::run_with_progress;
+use crate::timer::LoadTimer;
 use cli_options::LoadOutput;
-use load_run::{LoadFault, LoadReport, Outcomes, no_recorders};
+use load_run::{LoadFault, LoadReport, LoadSummary, no_recorders};
 use load_tasks::Settings;
-use std::alloc::{AllocError, Global};
+use std::alloc::Global;
+use std::fmt;
+use std::fmt::{Display, Formatter};
 use std::io::Write;
 use std::sync::Wait;
 use std::thread::Threads;
 use std::time::Clock;
-use vac_lines::{StreamFault, append_field, print_reply, write_and_flush};
-use vac_model::{Reply, Report};
+use vac_lines::{StreamFault, print, write_and_flush};
 
 /// A load from the command line, with the runtime it runs on.
 #[derive(Drop)]
@@ -109,7 +108,7 @@ fn write_load<W: Write>(alloc: Global, report: &LoadReport, output: &mut W) -> u
         ⊎ AppendsPrefix (W.contents output.old) (W.contents output.new) (load_text report.now) }
 {
     let mut text = Vec::new(alloc);
-    if append_load(&mut text, report).is_err() {
+    if print(report, &mut text).is_err() {
         return end_by(StreamFault::Memory, output);
     }
     match write_and_flush(output, text.as_slice()) {
@@ -118,52 +117,61 @@ fn write_load<W: Write>(alloc: Global, report: &LoadReport, output: &mut W) -> u
     }
 }
 
-/// Appends the number of completed tasks, and the number of tasks that met a conflict with another
-/// client in each attempt.
-fn append_tried(out: &mut Vec<u8>, outcomes: Outcomes) -> Result<(), AllocError>
-    ensures { OnOk result (out.new.items ≡ out.old.items ++ tried_text outcomes) }
-{
-    append_field(out, b"answered ", outcomes.answered)?;
-    append_field(out, b" busy ", outcomes.busy)
+/// The statistics of a load as a line, if they are asked for.
+#[derive(Clone, Copy)]
+struct StatsLine<'a> {
+    asked: bool,
+    summary: &'a LoadSummary,
 }
 
-/// Appends the number of tasks that were refused memory, and the number of tasks that found the
-/// clock spent.
-fn append_wanting(out: &mut Vec<u8>, outcomes: Outcomes) -> Result<(), AllocError>
-    ensures { OnOk result (out.new.items ≡ out.old.items ++ wanting_text outcomes) }
-{
-    append_field(out, b" memory ", outcomes.memory)?;
-    append_field(out, b" spent ", outcomes.spent)
+impl Display for StatsLine<'_> {
+    ghost output = { λ line. Some (stats_if line.asked line.summary.now) };
+
+    fn fmt<W: fmt::Write>(&self, f: &mut Formatter<W>) -> fmt::Result {
+        if self.asked {
+            return writeln!(f, "{}", self.summary);
+        }
+        Ok(())
+    }
 }
 
-/// Appends the counts of the tasks, without a line end.
-fn append_outcomes(out: &mut Vec<u8>, outcomes: Outcomes) -> Result<(), AllocError>
-    ensures { OnOk result (out.new.items ≡ out.old.items ++ tally_text outcomes) }
-{
-    append_tried(out, outcomes)?;
-    append_wanting(out, outcomes)
+/// The two lines of a load, if they are asked for.
+#[derive(Clone, Copy)]
+struct LoadLines<'a> {
+    asked: bool,
+    report: &'a LoadReport,
 }
 
-/// Appends the counts of the tasks, as a line.
-fn append_outcomes_line(out: &mut Vec<u8>, outcomes: Outcomes) -> Result<(), AllocError>
-    ensures { OnOk result (out.new.items ≡ out.old.items ++ as_line (tally_text outcomes)) }
-{
-    append_outcomes(out, outcomes)?;
-    out.extend_from_slice(b"\n")
+impl Display for LoadLines<'_> {
+    ghost output = { λ lines. Some (lines_if lines.asked lines.report.now) };
+
+    fn fmt<W: fmt::Write>(&self, f: &mut Formatter<W>) -> fmt::Result {
+        if self.asked {
+            return write!(f, "{}", self.report);
+        }
+        Ok(())
+    }
 }
 
-/// Appends a report, as a line.
-fn append_report_line(out: &mut Vec<u8>, report: Report) -> Result<(), AllocError>
-    ensures { OnOk result (out.new.items ≡ out.old.items ++ as_line (report_text report)) }
+/// Writes the lines about the end of a load to `errors`: its statistics if they are asked for, and
+/// its two lines if its history or its attempts go to the output. If memory or the write is
+/// refused, only these lines are lost.
+pub(crate) fn tell_summary<E: Write>(
+    alloc: Global,
+    how: LoadOutput,
+    summary: &LoadSummary,
+    errors: &mut E,
+)
+    ensures { AppendsPrefix (E.contents errors.old) (E.contents errors.new)
+        (summary_text how summary.now) }
 {
-    print_reply(&Reply::Report(report), out)?;
-    out.extend_from_slice(b"\n")
-}
-
-/// Appends the two lines of a load: the counts of its tasks, and the report.
-pub(crate) fn append_load(out: &mut Vec<u8>, load: &LoadReport) -> Result<(), AllocError>
-    ensures { OnOk result (out.new.items ≡ out.old.items ++ load_text load.now) }
-{
-    append_outcomes_line(out, load.outcomes)?;
-    append_report_line(out, load.report)
+    let stats = StatsLine {
+        asked: how.stats,
+        summary,
+    };
+    let lines = LoadLines {
+        asked: how.history || how.attempts,
+        report: &summary.report,
+    };
+    write_text(alloc, format_args!("{stats}{lines}"), errors);
 }

@@ -6,8 +6,8 @@ ghost use Rattle.cli_main.specs.Parting.{WritesPart, WritesPartOf};
 
 use crate::status::{end_by, end_judged, refuse};
 use cli_options::PartWords;
-use judge_heuristic::Names;
 use judge_part_text::{read_names, write_part, write_part_until};
+use judge_reservations::Names;
 use std::alloc::Global;
 use std::io::{Read, Write};
 use vac_lines::StreamFault;

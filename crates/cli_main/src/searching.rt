@@ -14,7 +14,7 @@ ghost use Rattle.judge_coverage.specs.Watching.{inner_of};
 
 use crate::judging::judge_alone;
 use crate::reporting::{most_watched, report_calls};
-use crate::status::{DONE, FAULT, UNDECIDED, end_by, end_judged};
+use crate::status::{DONE, FAULT, UNDECIDED, end_by, end_judged, write_text};
 use crate::telling::has_passed;
 use cli_options::{JudgeSettings, SearchSettings};
 use judge_calls::{CALL_BYTES, judge_order_with_workload, read_all};
@@ -53,10 +53,11 @@ impl<T: Clock + AllocGlobal, E: Write> Watcher for ProgressWatcher<'_, '_, T, E>
         if steps % STRIDE != 0 || !has_passed(self.rt, self.last) {
             return;
         }
-        let alloc = self.rt.alloc();
-        if let Ok(line) = format!(in alloc; "placed {placed} steps {steps}\n") {
-            let _ = write_and_flush(self.errors, line.as_bytes());
-        }
+        write_text(
+            self.rt.alloc(),
+            format_args!("placed {placed} steps {steps}\n"),
+            self.errors,
+        );
         self.last = Instant::now(self.rt).ok();
     }
 }

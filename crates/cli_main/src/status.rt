@@ -1,6 +1,7 @@
-//! The statuses of the program, and its last line after a fault.
+//! The statuses of the program, and texts that may be lost: its last line after a fault, reports,
+//! and progress.
 
-ghost use Rattle.std.specs.Prelude.{◌≡◌, ◌≤◌, ◌↔◌};
+ghost use Rattle.std.specs.Prelude.{◌≡◌, ◌≤◌, ◌↔◌, IfSome};
 ghost use Rattle.vac_lines.specs.Writing.{AppendsPrefix};
 ghost use Rattle.cli_main.specs.Ending.{fault_line, unopened_line, long_attempt_line};
 ghost use Rattle.cli_main.specs.Ending.{load_fault_line};
@@ -9,8 +10,9 @@ ghost use Rattle.cli_main.specs.Ending.{EndsDone, EndsJudged};
 use load_run::LoadFault;
 use load_tasks::{BLOCKS_OF_ITEM, Settings};
 use std::alloc::Global;
+use std::fmt::Display;
 use std::io::Write;
-use vac_lines::{StreamFault, write_and_flush};
+use vac_lines::{StreamFault, print, write_and_flush};
 
 /// Status of a program that did its work or showed its help.
 pub(crate) const DONE: u8 = 0;
@@ -24,12 +26,27 @@ pub(crate) const UNDECIDED: u8 = 3;
 /// Status of a program whose command line was refused.
 pub(crate) const REFUSED: u8 = 2;
 
-/// Writes the last lines of a program to one of its outputs. A failed write changes nothing.
+/// Writes a text to one of the program's outputs. If the write fails, the rest of the text is lost.
 #[tactic(auto, using(crate::proofs::Ending::either_way))]
-pub(crate) fn write_last<W: Write>(line: &[u8], output: &mut W)
+fn write_last<W: Write>(line: &[u8], output: &mut W)
     ensures { AppendsPrefix (W.contents output.old) (W.contents output.new) line.now }
 {
     let _ = write_and_flush(output, line);
+}
+
+/// Writes the text of a value to one of the program's outputs. If memory is refused, or the write
+/// fails, only this text is lost.
+///
+/// Not said: the text of a value whose type states no output.
+#[tactic(auto, using(crate::proofs::Reported::none_of, crate::proofs::Reported::shown))]
+pub(crate) fn write_text<D: Display + Drop, W: Write>(alloc: Global, value: D, output: &mut W)
+    ensures { IfSome (D.output value)
+        (AppendsPrefix (W.contents output.old) (W.contents output.new)) }
+{
+    let mut text = Vec::new(alloc);
+    if print(value, &mut text).is_ok() {
+        write_last(text.as_slice(), output);
+    }
 }
 
 /// Writes to `errors` why a command line is refused, and returns the status. A failed write changes
@@ -131,12 +148,13 @@ pub(crate) fn end_load_by<W: Write>(fault: LoadFault, output: &mut W) -> u8
 fn tell_settings<E: Write>(alloc: Global, settings: &Settings, errors: &mut E) {
     let (items, blocks) = (settings.items, settings.blocks);
     let least = u64::from(BLOCKS_OF_ITEM) * u64::from(items);
-    let Ok(line) = format!(in alloc;
-        "error: --items {items} needs --blocks {least} at least, and --blocks is {blocks}\n"
-    ) else {
-        return;
-    };
-    let _ = write_and_flush(errors, line.as_bytes());
+    write_text(
+        alloc,
+        format_args!(
+            "error: --items {items} needs --blocks {least} at least, and --blocks is {blocks}\n"
+        ),
+        errors,
+    );
 }
 
 /// Ends a load whose settings do not fit each other, writes to `errors` which of them, and returns

@@ -1,17 +1,17 @@
 //! Loads that write progress lines while they run.
 
-ghost use Rattle.std.specs.Prelude.{◌≡◌, ◌++◌, IfOk, IfSome, OnOk};
+ghost use Rattle.std.specs.Prelude.{◌≡◌, IfSome};
 ghost use Rattle.load_run.specs.Keeping.{contents};
 ghost use Rattle.vac_lines.specs.Writing.{AppendsPrefix};
 ghost use Rattle.cli_main.specs.Load.{HasRun, RunsKept, ReportsProgress};
 ghost use Rattle.cli_main.specs.Statistics.{WritesProgress, progress_line, task_count};
 
-use crate::stats::LoadTimer;
-use crate::status::write_last;
+use crate::status::write_text;
+use crate::timer::LoadTimer;
 use cli_options::LoadOutput;
 use load_run::{AttemptStatistics, Load, LoadFault, LoadReport, Recorders};
 use load_tasks::{PcgDraws, Settings};
-use std::alloc::{AllocError, Global};
+use std::alloc::Global;
 use std::io::Write;
 use std::sync::Wait;
 use std::sync::atomic::{AtomicBool, AtomicU64, Ordering};
@@ -19,7 +19,6 @@ use std::thread;
 use std::thread::{Parker, Threads};
 use std::time::{Clock, Duration, Instant};
 use stm_attempt::{Gate, Point};
-use vac_lines::append_field;
 use vac_manager::Recorder;
 
 /// Least time between two lines, in milliseconds.
@@ -95,7 +94,7 @@ impl Progress {
             }
             if has_passed(rt, last) {
                 let answered = self.answered.load(Ordering::SeqCst);
-                write_line(rt.alloc(), answered, all, errors);
+                write_progress(rt.alloc(), answered, all, errors);
                 last = Instant::now(rt).ok();
             }
         }
@@ -118,34 +117,17 @@ pub(crate) fn has_passed<T: Clock>(rt: &T, last: Option<Instant>) -> bool {
     }
 }
 
-/// Appends a line of progress.
-fn append_progress(out: &mut Vec<u8>, answered: u64, all: u64) -> Result<(), AllocError>
-    ensures { OnOk result (out.new.items ≡ out.old.items ++ progress_line answered all) }
-{
-    append_field(out, b"answered ", answered)?;
-    append_field(out, b" of ", all)?;
-    out.extend_from_slice(b"\n")
-}
-
-/// Returns a line of progress.
-fn progress_text(alloc: Global, answered: u64, all: u64) -> Result<Vec<u8>, AllocError>
-    ensures { IfOk result (λ text. text.items ≡ progress_line answered all) }
-{
-    let mut text = Vec::new(alloc);
-    append_progress(&mut text, answered, all)?;
-    Ok(text)
-}
-
 /// Writes a line of progress: the number of completed tasks and the number of all tasks. If memory
 /// or the write is refused, only the line is lost.
-#[tactic(auto, using(crate::proofs::Reported::none_of, crate::proofs::Reported::shown))]
-fn write_line<E: Write>(alloc: Global, answered: u64, all: u64, errors: &mut E)
+fn write_progress<E: Write>(alloc: Global, answered: u64, all: u64, errors: &mut E)
     ensures { AppendsPrefix (E.contents errors.old) (E.contents errors.new)
         (progress_line answered all) }
 {
-    if let Ok(text) = progress_text(alloc, answered, all) {
-        write_last(text.as_slice(), errors);
-    }
+    write_text(
+        alloc,
+        format_args!("answered {answered} of {all}\n"),
+        errors,
+    );
 }
 
 /// Returns the number of tasks of a load, or the largest number of 64 bits if it is less.

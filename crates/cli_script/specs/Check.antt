@@ -4,7 +4,7 @@ use Rattle.std.specs.Io.KnownBytes.{Appends, Consumes, IsAtEnd}
 use Rattle.vac_model.specs.State.{State}
 use Rattle.vac_records.specs.Represents.{IsState}
 use Rattle.vac_lines.specs.Script.{as_line}
-use Rattle.vac_lines.specs.Text.{report_text}
+use Rattle.vac_model.specs.ReplyText.{report_text}
 use Rattle.vac_lines.specs.Memory.{memory_words}
 use Rattle.vac_audit.specs.Walk.{audit}
 use Rattle.vac_audit.specs.Laws.{word_of}

@@ -8,7 +8,8 @@ use Rattle.vac_lines.specs.declared.fault.LineFault.{LineFault}
 use Rattle.vac_lines.specs.declared.fault.LineFault.TheVariants as fault
 use Rattle.vac_lines.specs.LineTable.{line_task}
 use Rattle.vac_lines.specs.Script.{answer, as_line}
-use Rattle.vac_lines.specs.Text.{Extends, reply_text, fault_text}
+use Rattle.vac_lines.specs.Text.{Extends, fault_text}
+use Rattle.vac_model.specs.ReplyText.{reply_text}
 use Rattle.vac_lines.specs.Writing.{AppendsPrefix}
 use Rattle.vac_manager.specs.Called.{CallerShown}
 use Rattle.vac_lines.specs.declared.stream_fault.StreamFault.{StreamFault}

@@ -1,17 +1,17 @@
 //! The audit of words that are read as text.
 
-ghost use Rattle.std.specs.Prelude.{◌≡◌, ◌++◌, OnOk, OnErr, IfOk};
-ghost use Rattle.cli_script.specs.Check.{flaw_name, flaw_text, check_text, is_sound};
+ghost use Rattle.std.specs.Prelude.{◌≡◌, Some, OnErr, IfOk};
+ghost use Rattle.cli_script.specs.Check.{check_text, is_sound};
 ghost use Rattle.cli_script.specs.Check.{Judged, IsVerdict, Checked, CheckStopped};
-ghost use Rattle.vac_audit.specs.Laws.{word_of};
-ghost use Rattle.vac_lines.specs.Script.{as_line};
 
 use crate::memory::read_memory;
-use std::alloc::{AllocError, Global};
+use std::alloc::Global;
+use std::fmt;
+use std::fmt::{Display, Formatter};
 use std::io::{Read, Write};
 use vac_audit::{AuditFault, Flaw, audit_words};
-use vac_lines::{StreamFault, print_reply, write_and_flush};
-use vac_model::{Reply, Report};
+use vac_lines::{StreamFault, print, write_and_flush};
+use vac_model::Report;
 
 /// The verdict on a text of words.
 #[derive(Clone, Copy)]
@@ -24,62 +24,22 @@ enum Verdict {
     BadWords,
 }
 
-/// Returns the name of a flaw, up to its word.
-fn flaw_name(flaw: Flaw) -> &'static [u8]
-    ensures { result.now ≡ flaw_name flaw }
-{
-    match flaw {
-        Flaw::Pointer(_) => b"flaw pointer ",
-        Flaw::Shared(_) => b"flaw shared ",
-        Flaw::Lost(_) => b"flaw lost ",
-        Flaw::Order(_) => b"flaw order ",
-        Flaw::Colour(_) => b"flaw colour ",
-        Flaw::Counts(_) => b"flaw counts ",
-        Flaw::Bookings(_) => b"flaw bookings ",
+impl Display for Verdict {
+    ghost output = { λ verdict. Some (check_text verdict) };
+
+    fn fmt<W: fmt::Write>(&self, f: &mut Formatter<W>) -> fmt::Result {
+        match self {
+            Verdict::Sound(report) => write!(f, "{report}"),
+            Verdict::Flawed(Flaw::Pointer(word)) => write!(f, "flaw pointer {word}"),
+            Verdict::Flawed(Flaw::Shared(word)) => write!(f, "flaw shared {word}"),
+            Verdict::Flawed(Flaw::Lost(word)) => write!(f, "flaw lost {word}"),
+            Verdict::Flawed(Flaw::Order(word)) => write!(f, "flaw order {word}"),
+            Verdict::Flawed(Flaw::Colour(word)) => write!(f, "flaw colour {word}"),
+            Verdict::Flawed(Flaw::Counts(word)) => write!(f, "flaw counts {word}"),
+            Verdict::Flawed(Flaw::Bookings(word)) => write!(f, "flaw bookings {word}"),
+            Verdict::BadWords => write!(f, "fault bad-words"),
+        }
     }
-}
-
-/// Returns the word at which a flaw was met.
-fn flaw_word(flaw: Flaw) -> u32
-    ensures { result ≡ word_of flaw }
-{
-    match flaw {
-        Flaw::Pointer(word)
-        | Flaw::Shared(word)
-        | Flaw::Lost(word)
-        | Flaw::Order(word)
-        | Flaw::Colour(word)
-        | Flaw::Counts(word)
-        | Flaw::Bookings(word) => word,
-    }
-}
-
-/// Appends a flaw: its name and its word.
-fn print_flaw(flaw: Flaw, out: &mut Vec<u8>) -> Result<(), AllocError>
-    ensures { OnOk result (out.new.items ≡ out.old.items ++ flaw_text flaw) }
-{
-    out.extend_from_slice(flaw_name(flaw))?;
-    let word = u64::from(flaw_word(flaw));
-    print_reply(&Reply::Number(Some(word)), out)
-}
-
-/// Appends the text of a verdict.
-fn append_verdict(verdict: Verdict, out: &mut Vec<u8>) -> Result<(), AllocError>
-    ensures { OnOk result (out.new.items ≡ out.old.items ++ check_text verdict) }
-{
-    match verdict {
-        Verdict::Sound(report) => print_reply(&Reply::Report(report), out),
-        Verdict::Flawed(flaw) => print_flaw(flaw, out),
-        Verdict::BadWords => out.extend_from_slice(b"fault bad-words"),
-    }
-}
-
-/// Appends the line of a verdict.
-fn print_verdict(verdict: Verdict, out: &mut Vec<u8>) -> Result<(), AllocError>
-    ensures { OnOk result (out.new.items ≡ out.old.items ++ as_line (check_text verdict)) }
-{
-    append_verdict(verdict, out)?;
-    out.extend_from_slice(b"\n")
 }
 
 /// Returns whether a verdict is that of a balanced state.
@@ -134,7 +94,7 @@ pub fn check_words<R: Read, W: Write>(
 {
     let verdict = read_verdict(alloc, input)?;
     let mut line = Vec::new(alloc);
-    print_verdict(verdict, &mut line)?;
+    print(format_args!("{verdict}\n"), &mut line)?;
     write_and_flush(output, line.as_slice())?;
     Ok(is_sound(verdict))
 }

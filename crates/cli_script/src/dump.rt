@@ -12,7 +12,7 @@ use crate::system::{close, open};
 use std::alloc::Global;
 use std::io;
 use std::io::{Read, Write};
-use vac_lines::{StreamFault, print_word, send_chunk, send_rest};
+use vac_lines::{StreamFault, print, send_chunk, send_rest};
 
 /// Runs a script for a system of `blocks` blocks, 1 to 262,144, and dumps its memory. Reads the
 /// lines to the end of the input, writes no reply, closes the system, and writes its words in
@@ -48,7 +48,7 @@ fn write_words<W: Write>(alloc: Global, words: &[u64], output: &mut W) -> Result
 {
     let mut text = Vec::new(alloc);
     for word in words {
-        print_word(*word, &mut text)?;
+        print(format_args!("{word}\n"), &mut text)?;
         send_chunk(output, &mut text)?;
     }
     send_rest(output, text.as_slice())

@@ -1,10 +1,9 @@
 //! Running a script: lines in, output lines out.
 
-ghost use Rattle.std.specs.Prelude.{◌≡◌, ◌⊎◌, ◌++◌, true, OnOk, OnErr, IfOk, IfErr, IsErr, []};
+ghost use Rattle.std.specs.Prelude.{◌≡◌, ◌⊎◌, true, OnOk, OnErr, IfOk, IfErr, IsErr, []};
 ghost use Rattle.vac_model.specs.Ranges.{is_block_count};
 ghost use Rattle.vac_manager.specs.Called.{HasAllGrants};
 ghost use Rattle.vac_manager.specs.Legal.{capacity_of};
-ghost use Rattle.vac_lines.specs.Text.{Extends};
 ghost use Rattle.vac_lines.specs.Writing.{AppendsPrefix};
 ghost use Rattle.vac_lines.specs.declared.stream_fault.StreamFault.TheVariants.{Memory, Write};
 ghost use Rattle.cli_script.specs.Hearing.{answer_line, Puts};
@@ -15,8 +14,8 @@ use crate::system::open;
 use std::alloc::{AllocError, Global};
 use std::io::{Read, Write};
 use vac_lines::{
-    CHUNK_BYTES, LINE_BYTES, LineFault, Next, Sink, StreamFault, print_fault, print_reply,
-    read_line, read_lines, send_all, send_rest,
+    CHUNK_BYTES, LINE_BYTES, LineFault, Next, Sink, StreamFault, print, read_line, read_lines,
+    send_all, send_rest,
 };
 use vac_manager::{Caller, Client, Fault, call};
 use vac_model::Reply;
@@ -29,19 +28,6 @@ struct Script<'a> {
     /// The output lines that are not yet written.
     out: Vec<u8>,
     ghost lone: { IsLoneCaller caller },
-}
-
-/// Appends the output line for a reply or for the fault of a line. If memory is refused, appends a
-/// part of the line at most.
-fn print_answer(answer: &Result<Reply, LineFault>, out: &mut Vec<u8>) -> Result<(), AllocError>
-    ensures ok { OnOk result (out.new.items ≡ out.old.items ++ answer_line answer.now) }
-    ensures err { OnErr result (Extends out.new.items (out.old.items ++ answer_line answer.now)) }
-{
-    match answer {
-        Ok(reply) => print_reply(reply, out)?,
-        Err(fault) => print_fault(*fault, out)?,
-    }
-    out.extend_from_slice(b"\n")
 }
 
 /// Writes the buffered text before refused memory ends the script.
@@ -65,7 +51,11 @@ fn put<W: Write>(
     ensures { Puts out.old.items (answer_line answer) (W.contents output.old) result
         out.new.items (W.contents output.new) }
 {
-    match print_answer(&answer, out) {
+    let printed = match answer {
+        Ok(reply) => print(format_args!("{reply}\n"), out),
+        Err(fault) => print(format_args!("fault {}\n", fault.name()), out),
+    };
+    match printed {
         Ok(()) => Ok(Next::GoOn),
         Err(_) => halt(out, output),
     }

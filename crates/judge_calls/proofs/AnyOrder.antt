@@ -1,37 +1,35 @@
 -- The verdict on an order of a history's calls, in terms of the lines of the history.
-use Rattle.std.proofs.Common.{◌≡◌, ℕ, ◌+◌, ◌-◌, ◌<◌, ◌≤◌, ◌==◌, suc, zero, Bool, true, false, cond, List, [], ◌∷◌, ◌++◌}
-use Rattle.std.proofs.Common.{length, map, Option, Some, None, Result, Ok, Err, refl, sym, ap, subst, ◌∙◌, inl, inr}
-use Rattle.std.proofs.Common.{arith, append_assoc, length-append}
+use Rattle.std.proofs.Common.{◌≡◌, ℕ, ◌+◌, ◌-◌, ◌<◌, ◌≤◌, ◌==◌, suc, Bool, true, false, cond, List, [], ◌∷◌, ◌++◌}
+use Rattle.std.proofs.Common.{length, map, Option, Some, None, Result, Ok, Err, refl, sym, ap, subst, ◌∙◌}
+use Rattle.std.proofs.Common.{arith, append_assoc}
 use Rattle.std.specs.Prelude.{⊤}
 use Rattle.std.proofs.lemmas.Bool.Decides.{nat_tests}
 use Rattle.std.proofs.lemmas.List.{map-append}
 use Rattle.vac_lines.specs.Lines.{lines_of}
-use Rattle.vac_lines.specs.TaskText.{task_text}
+use Rattle.vac_model.specs.TaskText.{task_text}
 use Rattle.judge_object.proofs.Order.{fails}
 use Rattle.judge_object.specs.Call.{EachCall, is_completed}
 use Rattle.judge_object.specs.Orders.{of_client, IsOrderOf}
 use Rattle.judge_calls.specs.declared.fault.CallFault.{CallFault}
-use Rattle.judge_calls.specs.declared.verdict.Verdict.{Verdict}
-use Rattle.judge_calls.specs.declared.verdict.Verdict.TheVariants.{Legal, Fault, Illegal}
 use Rattle.judge_calls.specs.declared.held.WorkloadVerdict.{WorkloadVerdict}
 use Rattle.judge_calls.specs.declared.held.WorkloadVerdict.TheVariants.{BadTasks, Foreign, Missing, Judged}
 use Rattle.judge_calls.specs.declared.in_order.OrderVerdict.{OrderVerdict}
 use Rattle.judge_calls.specs.declared.in_order.OrderVerdict.TheVariants.{Held, LeftOut}
 use Rattle.judge_calls.specs.Call.{Call, line_call}
 use Rattle.judge_calls.specs.Verdict.{verdict_on}
-use Rattle.judge_calls.specs.Laws.{Lists, IsLinearization}
-use Rattle.judge_calls.specs.Work.{Asked, line_asked, work_of, tasks_of, is_next, first_foreign, first_missing}
+use Rattle.judge_calls.specs.Laws.{IsLinearization}
+use Rattle.judge_calls.specs.Work.{Asked, line_asked, work_of, is_next, first_foreign, first_missing}
 use Rattle.judge_calls.specs.Work.{calls_in}
 use Rattle.judge_calls.specs.Work.{held_against_work, held_by, workload_verdict, is_whole}
 use Rattle.judge_calls.specs.Whole.{asked_by, forms, IsDoneBy, LegalIsWhole}
-use Rattle.judge_calls.specs.NotWhole.{AskForFirst, HandsOut, IsFirstMissing, MissingIsFirst}
+use Rattle.judge_calls.specs.NotWhole.{AskForFirst, IsFirstMissing, MissingIsFirst}
 use Rattle.judge_calls.specs.AnyOrder.{line_of_call, unless_left_out, told_by_lines, unless_foreign, order_held_by}
 use Rattle.judge_calls.specs.AnyOrder.{order_verdict, is_covered, IsReordered, IsWholeOrder, CoveredIsWhole}
 use Rattle.judge_calls.specs.AnyOrder.{IsFirstOther, ForeignIsOfHistory, IsNeverSubmitted, MissingIsNeverSubmitted}
 use Rattle.judge_calls.specs.AnyOrder.{IsLeftOutOfOrder, LeftOutIsPending}
 use Rattle.judge_calls.proofs.Done.{false_true, work_lines, lines_work, goes_on, none_foreign}
 use Rattle.judge_calls.proofs.NotWhole.{is_foreign}
-use Rattle.judge_calls.proofs.Foreign.{OtherAt, find_other, other_named, asks_with, next_with}
+use Rattle.judge_calls.proofs.Foreign.{find_other, other_named, asks_with, next_with}
 use Rattle.judge_calls.proofs.Missing.{few_made}
 
 -- ---- a text lists its calls in one way

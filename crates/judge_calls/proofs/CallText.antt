@@ -31,10 +31,12 @@ use Rattle.vac_model.specs.Ranges.{is_change, is_command, is_task}
 use Rattle.vac_lines.specs.Lines.{words_of}
 use Rattle.vac_lines.specs.Words.{decimal_value}
 use Rattle.vac_lines.specs.LineTable.{is_bad_byte}
-use Rattle.vac_lines.specs.Text.{why_name, done_text, field_text, entries_text, booked_text, sums_text, report_text}
-use Rattle.vac_lines.specs.Text.{joined_text, pick_text, change_text, picks_text, trip_text, reply_text}
-use Rattle.vac_lines.specs.TaskText.{TaskTextsAreRead, kind_word, price_word, units_words, command_words, further_words}
-use Rattle.vac_lines.specs.TaskText.{changes_words, task_words, task_text, spaced, words_text}
+use Rattle.vac_model.specs.ReplyText.{why_name, done_text, field_text, entries_text, booked_text, sums_text}
+use Rattle.vac_model.specs.ReplyText.{report_text}
+use Rattle.vac_model.specs.ReplyText.{joined_text, pick_text, change_text, picks_text, trip_text, reply_text}
+use Rattle.vac_lines.specs.TaskText.{TaskTextsAreRead}
+use Rattle.vac_model.specs.TaskText.{kind_word, price_word, units_words, command_words, further_words}
+use Rattle.vac_model.specs.TaskText.{changes_words, task_words, task_text, spaced, words_text}
 use Rattle.vac_lines.proofs.Decimals.{all_digits, number_in_word}
 use Rattle.vac_lines.proofs.Spacing.{Each, IsPlain, each_both, words_cut, words_clean}
 use Rattle.vac_lines.proofs.TaskReading.{both, small_id, small_amount, small_units, ask_words, has_id, is_good_change}

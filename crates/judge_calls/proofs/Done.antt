@@ -7,7 +7,7 @@ use Rattle.std.proofs.lemmas.Bool.Decides.{nat_tests}
 use Rattle.std.proofs.lemmas.Slice.Eq.{bytes_eq-Decides}
 use Rattle.vac_model.specs.declared.tasks.Task.{Task}
 use Rattle.vac_lines.specs.Lines.{lines_of}
-use Rattle.vac_lines.specs.TaskText.{task_text}
+use Rattle.vac_model.specs.TaskText.{task_text}
 use Rattle.judge_calls.specs.declared.fault.CallFault.{CallFault}
 use Rattle.judge_calls.specs.declared.verdict.Verdict.{Verdict}
 use Rattle.judge_calls.specs.declared.verdict.Verdict.TheVariants.{Legal, Fault, Illegal}

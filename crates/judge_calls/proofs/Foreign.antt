@@ -8,7 +8,7 @@ use Rattle.std.proofs.lemmas.List.{map-append}
 use Rattle.vac_model.specs.State.{State, empty_state}
 use Rattle.vac_model.specs.Run.{run}
 use Rattle.vac_lines.specs.Lines.{lines_of}
-use Rattle.vac_lines.specs.TaskText.{task_text}
+use Rattle.vac_model.specs.TaskText.{task_text}
 use Rattle.judge_object.proofs.Order.{fails}
 use Rattle.judge_calls.specs.declared.fault.CallFault.{CallFault}
 use Rattle.judge_calls.specs.declared.verdict.CallViolation.{CallViolation}

@@ -3,7 +3,6 @@ use Rattle.std.proofs.Common.{◌≡◌, ◌≢◌, ◌⊎◌, ℕ, ◌+◌, ◌
 use Rattle.std.proofs.Common.{List, [], ◌∷◌, ◌++◌, length, map, Option, Some, None, unwrap_or, Result, Ok, Err}
 use Rattle.std.proofs.Common.{refl, sym, ap, subst, ◌∙◌, inl, inr, arith, append-nil, append_assoc, length-append, eqb}
 use Rattle.std.proofs.Common.{ne_eqb, nat_le}
-use Rattle.std.specs.Prelude.{codes}
 use Rattle.std.specs.Ordering.{nat_cmp, eq_by_cmp}
 use Rattle.std.specs.FinMap.{FinMap, get, insert, remove, empty, get-empty, get-insert, get-remove}
 use Rattle.std.specs.Global.{Vec}
@@ -382,12 +381,6 @@ seen_more work held seen seen' client before number rest behind p all cut b n i 
   where
     one_more : (n : ℕ) → n + 1 ≡ suc n
     one_more n = omega arith
-
--- what is written of a task that is missing
-pub missing_text : (out client number : List ℕ) → (out ++ (codes "illegal missing " ++ client)) ++
-    ((codes " " ++ number) ++ 10 ∷ [])
-    ≡ out ++ ((codes "illegal missing " ++ client ++ codes " " ++ number) ++ 10 ∷ [])
-missing_text out client number = simp append_assoc
 
 -- what the code tests of a client
 pub found_open : (a b : ℕ) (s : Bool) → a ≤ b → s ≡ false → (nat_le a b && not s) ≡ true

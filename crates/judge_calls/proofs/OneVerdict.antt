@@ -1,5 +1,5 @@
 -- The verdict on an order that is a linearization is the one whose condition holds.
-use Rattle.std.proofs.Common.{◌≡◌, ℕ, ◌+◌, ◌-◌, ◌<◌, ◌≤◌, ◌==◌, Bool, true, false, cond, List, [], ◌∷◌, ◌++◌}
+use Rattle.std.proofs.Common.{◌≡◌, ℕ, ◌+◌, ◌-◌, ◌≤◌, ◌==◌, Bool, true, false, cond, List, [], ◌∷◌, ◌++◌}
 use Rattle.std.proofs.Common.{length, map, Option, Some, None, Result, Ok, Err, refl, sym, ap, subst, ◌∙◌, arith}
 use Rattle.std.specs.Prelude.{⊤, ◌↔◌}
 use Rattle.std.proofs.lemmas.Bool.Decides.{nat_tests}
@@ -16,7 +16,7 @@ use Rattle.judge_calls.specs.Verdict.{verdict_on, is_legal}
 use Rattle.judge_calls.specs.Laws.{IsLinearization, LegalIsLinearization}
 use Rattle.judge_calls.specs.Work.{Asked, line_asked, work_of, first_foreign, first_missing, calls_in}
 use Rattle.judge_calls.specs.Work.{held_against_work, held_by, workload_verdict, unless_missing, joined_verdict}
-use Rattle.judge_calls.specs.Whole.{asked_by, LegalIsWhole}
+use Rattle.judge_calls.specs.Whole.{asked_by}
 use Rattle.judge_calls.specs.NotWhole.{AskForFirst, HandsOut, IsFirstWithoutTask, MissingIsFirst}
 use Rattle.judge_calls.specs.AnyOrder.{line_of_call, unless_left_out, told_by_lines, unless_foreign, order_held_by}
 use Rattle.judge_calls.specs.AnyOrder.{order_verdict, is_covered, IsReordered, IsWholeOrder}

@@ -9,8 +9,8 @@ use Rattle.vac_model.specs.declared.replies.Pick.{Pick}
 use Rattle.vac_model.specs.Ranges.{is_task}
 use Rattle.vac_lines.specs.declared.line.TheConstants.{LINE_BYTES}
 use Rattle.vac_lines.specs.Script.{as_line}
-use Rattle.vac_lines.specs.TaskText.{task_text}
-use Rattle.vac_lines.specs.Text.{reply_text}
+use Rattle.vac_model.specs.TaskText.{task_text}
+use Rattle.vac_model.specs.ReplyText.{reply_text}
 use Rattle.vac_lines.specs.declared.client.TheConstants.{MOST_CLIENT}
 use Rattle.judge_calls.specs.declared.call.TheConstants.{CALL_BYTES}
 use Rattle.judge_object.specs.declared.span.TheConstants.{NEVER}

@@ -4,7 +4,7 @@
 -- workload is not legal for another reason, its verdict is that of the history alone.
 use Rattle.std.specs.Prelude.{◌≡◌, ◌↔◌, ◌⊎◌, ℕ, ◌+◌, true, false, Result, Ok, Err, List, [], ◌∷◌, ◌++◌, map, length}
 use Rattle.vac_lines.specs.Lines.{lines_of}
-use Rattle.vac_lines.specs.TaskText.{task_text}
+use Rattle.vac_model.specs.TaskText.{task_text}
 use Rattle.judge_calls.specs.declared.fault.CallFault.{CallFault}
 use Rattle.judge_calls.specs.declared.held.WorkloadVerdict.TheVariants.{BadTasks, Foreign, Missing}
 use Rattle.judge_calls.specs.Call.{Call, line_call}

@@ -3,7 +3,8 @@ use Rattle.std.specs.Prelude.{ℕ, ◌+◌, Bool, true, false, Option, Some, Non
 use Rattle.vac_model.specs.State.{State, empty_state, report}
 use Rattle.vac_model.specs.Run.{run}
 use Rattle.vac_lines.specs.Lines.{lines_of}
-use Rattle.vac_lines.specs.Text.{reply_text, report_text, fault_text, field_text}
+use Rattle.vac_lines.specs.Text.{fault_text}
+use Rattle.vac_model.specs.ReplyText.{reply_text, report_text, field_text}
 use Rattle.vac_lines.specs.Script.{as_line}
 use Rattle.judge_calls.specs.declared.fault.CallFault.{CallFault}
 use Rattle.judge_calls.specs.declared.fault.CallFault.TheVariants.{BadCall, Line}

@@ -3,7 +3,7 @@
 use Rattle.std.specs.Prelude.{◌≡◌, ◌↔◌, ℕ, ◌==◌, true, false, Ok, List, [], ◌∷◌, ◌++◌, map, if◌then◌else◌}
 use Rattle.vac_model.specs.declared.tasks.Task.{Task}
 use Rattle.vac_lines.specs.Lines.{lines_of}
-use Rattle.vac_lines.specs.TaskText.{task_text}
+use Rattle.vac_model.specs.TaskText.{task_text}
 use Rattle.judge_calls.specs.Call.{Call}
 use Rattle.judge_calls.specs.Laws.{IsLinearization, Lists}
 use Rattle.judge_calls.specs.Work.{Asked, line_asked, tasks_of, has_stopped, workload_verdict, is_whole}

@@ -7,7 +7,7 @@ use Rattle.std.specs.Str.{bytes_eq}
 use Rattle.vac_model.specs.declared.tasks.Task.{Task}
 use Rattle.vac_lines.specs.Lines.{lines_of, words_of}
 use Rattle.vac_lines.specs.LineTable.{line_task}
-use Rattle.vac_lines.specs.TaskText.{task_text}
+use Rattle.vac_model.specs.TaskText.{task_text}
 use Rattle.vac_lines.specs.Script.{as_line}
 use Rattle.judge_object.specs.Call.{is_completed}
 use Rattle.judge_calls.specs.declared.fault.CallFault.{CallFault}

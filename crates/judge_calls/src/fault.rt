@@ -1,5 +1,8 @@
 //! Reasons why a line of a history is no call.
 
+ghost use Rattle.std.specs.Prelude.{◌≡◌, ◌++◌, codes};
+ghost use Rattle.judge_calls.specs.Verdict.{call_fault_text};
+
 use thiserror::Error;
 use vac_lines::LineFault;
 
@@ -14,6 +17,18 @@ pub enum CallFault {
     /// task's line has a fault.
     #[error("{0}")]
     Line(LineFault),
+}
+
+impl CallFault {
+    /// Returns the name of the fault, as an output has it.
+    pub(crate) fn name(self) -> &'static str
+        ensures { call_fault_text self ≡ codes "fault " ++ result.now }
+    {
+        match self {
+            CallFault::BadCall => "bad-call",
+            CallFault::Line(fault) => fault.name(),
+        }
+    }
 }
 
 impl From<LineFault> for CallFault {

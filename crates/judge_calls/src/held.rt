@@ -1,8 +1,6 @@
 //! Judging a history that is checked against a workload.
 
-ghost use Rattle.std.specs.Prelude.{◌≡◌, ◌≢◌, ◌≤◌, ◌++◌, IfOk, OnOk, OnErr, IfErr, List};
-ghost use Rattle.vac_lines.specs.Text.{Extends, field_text};
-ghost use Rattle.vac_lines.specs.Script.{as_line};
+ghost use Rattle.std.specs.Prelude.{◌≡◌, ◌≢◌, ◌≤◌, IfOk, IfErr, List, Some};
 ghost use Rattle.judge_calls.specs.Work.{Asked, comes_first, held_against_work, workload_verdict};
 ghost use Rattle.judge_calls.specs.Work.{workload_verdict_text, is_whole};
 ghost use Rattle.judge_calls.specs.Holding.{IsWork};
@@ -10,11 +8,13 @@ ghost use Rattle.judge_calls.specs.HeldReading.{IsReadWhole, HasChecked, HasStop
 
 use crate::holding::{check_calls, first_missing};
 use crate::reading::judge_input;
-use crate::verdict::{Verdict, print_verdict};
+use crate::verdict::Verdict;
 use crate::work::{Workload, read_workload};
-use std::alloc::{AllocError, Global};
+use std::alloc::Global;
+use std::fmt;
+use std::fmt::{Display, Formatter};
 use std::io::{ErrorKind, Read, Write};
-use vac_lines::{StreamFault, append_field, keep_whole, write_and_flush};
+use vac_lines::{StreamFault, print, write_and_flush};
 use vac_model::limits::MOST_BLOCKS;
 
 /// The verdict on a history that is checked against a workload. Lines are numbered from 1.
@@ -92,43 +92,20 @@ fn hold(
     }
 }
 
-/// Appends a line of a text and a number.
-pub(crate) fn append_line(out: &mut Vec<u8>, text: &[u8], number: u64) -> Result<(), AllocError>
-    ensures ok { OnOk result
-        (out.new.items ≡ out.old.items ++ as_line (field_text text.now number)) }
-    ensures err { OnErr result (Extends out.old.items out.new.items) }
-{
-    append_field(out, text, number)?;
-    out.extend_from_slice(b"\n")
-}
+/// The verdict, as a line, or as the two lines of a legal history.
+impl Display for WorkloadVerdict {
+    ghost output = { λ verdict. Some (workload_verdict_text verdict) };
 
-/// Appends the line that reports a client's task with this number as missing.
-fn append_missing(out: &mut Vec<u8>, client: u32, number: u64) -> Result<(), AllocError>
-    ensures ok { OnOk result
-        (out.new.items ≡ out.old.items ++ workload_verdict_text
-        (WorkloadVerdict.Missing client number)) }
-    ensures err { OnErr result (Extends out.old.items out.new.items) }
-{
-    append_field(out, b"illegal missing ", u64::from(client))?;
-    append_line(out, b" ", number)
-}
-
-/// Appends the text of a verdict. If memory is refused, nothing is appended.
-pub fn print_workload_verdict(
-    verdict: &WorkloadVerdict,
-    out: &mut Vec<u8>,
-) -> Result<(), AllocError>
-    ensures ok { OnOk result (out.new.items ≡ out.old.items ++ workload_verdict_text verdict.now) }
-    ensures err { OnErr result (out.new.items ≡ out.old.items) }
-{
-    let start = out.len();
-    let printed = match verdict {
-        WorkloadVerdict::Judged(verdict) => print_verdict(verdict, out),
-        WorkloadVerdict::BadTasks { line } => append_line(out, b"fault bad-tasks ", *line),
-        WorkloadVerdict::Foreign { line } => append_line(out, b"illegal task ", *line),
-        WorkloadVerdict::Missing { client, number } => append_missing(out, *client, *number),
-    };
-    keep_whole(out, start, printed)
+    fn fmt<W: fmt::Write>(&self, f: &mut Formatter<W>) -> fmt::Result {
+        match self {
+            WorkloadVerdict::Judged(verdict) => write!(f, "{verdict}"),
+            WorkloadVerdict::BadTasks { line } => write!(f, "fault bad-tasks {line}\n"),
+            WorkloadVerdict::Foreign { line } => write!(f, "illegal task {line}\n"),
+            WorkloadVerdict::Missing { client, number } => {
+                write!(f, "illegal missing {client} {number}\n")
+            }
+        }
+    }
 }
 
 /// Returns whether the verdict is that the history is legal and covers the workload, except for
@@ -185,7 +162,7 @@ pub fn judge_with_workload<V: Read, R: Read, W: Write>(
     let history = read_all(alloc, input)?;
     let verdict = hold(alloc, blocks, work.as_slice(), history.as_slice())?;
     let mut text = Vec::new(alloc);
-    print_workload_verdict(&verdict, &mut text)?;
+    print(verdict, &mut text)?;
     write_and_flush(output, text.as_slice())?;
     Ok(is_whole(&verdict))
 }

@@ -3,7 +3,7 @@
 ghost use Rattle.std.specs.Prelude.{◌≡◌, ◌≢◌, ◌∷◌, ◌+◌, ◌||◌, not, true, [], IfOk, OnOk, IfErr, None, List, map};
 ghost use Rattle.std.specs.Str.{bytes_eq};
 ghost use Rattle.vac_lines.specs.Lines.{lines_of};
-ghost use Rattle.vac_lines.specs.TaskText.{task_text};
+ghost use Rattle.vac_model.specs.TaskText.{task_text};
 ghost use Rattle.judge_object.specs.Call.{is_completed};
 ghost use Rattle.judge_calls.specs.Call.{Call, line_call};
 ghost use Rattle.judge_calls.specs.Parts.{shown_call};
@@ -16,7 +16,7 @@ use crate::call_line::CallLine;
 use crate::fault::CallFault;
 use crate::work::{Workload, next_line};
 use std::alloc::{AllocError, Global};
-use vac_lines::{LineFault, StreamFault, print_task};
+use vac_lines::{LineFault, StreamFault, print};
 use vac_model::Task;
 
 /// The number of calls of a client, and whether one of them is pending.
@@ -41,9 +41,9 @@ fn have_one_form(alloc: Global, wanted: &Task, given: &Task) -> Result<bool, All
     ensures { IfOk result (λ same. same ≡ bytes_eq (task_text wanted.now) (task_text given.now)) }
 {
     let mut wanted_text = Vec::new(alloc);
-    print_task(wanted, &mut wanted_text)?;
+    print(wanted, &mut wanted_text)?;
     let mut given_text = Vec::new(alloc);
-    print_task(given, &mut given_text)?;
+    print(given, &mut given_text)?;
     Ok(wanted_text.as_slice() == given_text.as_slice())
 }
 

@@ -1,6 +1,6 @@
 //! Checking a history against a workload in an order that was found for its calls.
 
-ghost use Rattle.std.specs.Prelude.{◌≡◌, ◌≢◌, ◌≤◌, ◌++◌, IfOk, OnOk, OnErr, IfErr, List, map};
+ghost use Rattle.std.specs.Prelude.{◌≡◌, ◌≢◌, ◌≤◌, IfOk, IfErr, List, Some, map};
 ghost use Rattle.vac_lines.specs.Lines.{lines_of};
 ghost use Rattle.judge_calls.specs.Call.{line_call};
 ghost use Rattle.judge_calls.specs.Work.{Asked};
@@ -11,14 +11,14 @@ ghost use Rattle.judge_calls.specs.AnyOrder.{HasCheckedOrder, HasStoppedChecking
 
 use crate::call::read_call;
 use crate::fault::CallFault;
-use crate::held::{
-    WorkloadVerdict, append_line, check_history, is_whole, print_workload_verdict, read_all,
-};
+use crate::held::{WorkloadVerdict, check_history, is_whole, read_all};
 use crate::holding::check_calls;
 use crate::work::{Workload, next_line, read_workload};
-use std::alloc::{AllocError, Global};
+use std::alloc::Global;
+use std::fmt;
+use std::fmt::{Display, Formatter};
 use std::io::{Read, Write};
-use vac_lines::{LineFault, StreamFault, keep_whole, write_and_flush};
+use vac_lines::{LineFault, StreamFault, print, write_and_flush};
 use vac_model::limits::MOST_BLOCKS;
 
 /// The verdict on an order of a history's calls that is checked against a workload. Lines are the
@@ -126,17 +126,15 @@ fn hold_order(
     }
 }
 
-/// Appends the text of a verdict. If memory is refused, nothing is appended.
-fn print_order_verdict(verdict: &OrderVerdict, out: &mut Vec<u8>) -> Result<(), AllocError>
-    ensures ok { OnOk result (out.new.items ≡ out.old.items ++ order_verdict_text verdict.now) }
-    ensures err { OnErr result (out.new.items ≡ out.old.items) }
-{
-    let start = out.len();
-    let printed = match verdict {
-        OrderVerdict::Held(verdict) => print_workload_verdict(verdict, out),
-        OrderVerdict::LeftOut { line } => append_line(out, b"illegal pending ", *line),
-    };
-    keep_whole(out, start, printed)
+impl Display for OrderVerdict {
+    ghost output = { λ verdict. Some (order_verdict_text verdict) };
+
+    fn fmt<W: fmt::Write>(&self, f: &mut Formatter<W>) -> fmt::Result {
+        match self {
+            OrderVerdict::Held(verdict) => write!(f, "{verdict}"),
+            OrderVerdict::LeftOut { line } => write!(f, "illegal pending {line}\n"),
+        }
+    }
 }
 
 /// Returns whether the verdict is that the order is legal and covers the workload.
@@ -176,7 +174,7 @@ pub fn judge_order_with_workload<V: Read, W: Write>(
     let work = read_all(alloc, tasks)?;
     let verdict = hold_order(alloc, blocks, work.as_slice(), history, order)?;
     let mut text = Vec::new(alloc);
-    print_order_verdict(&verdict, &mut text)?;
+    print(verdict, &mut text)?;
     write_and_flush(output, text.as_slice())?;
     Ok(is_covered(&verdict))
 }

@@ -9,7 +9,7 @@ ghost use Rattle.judge_calls.specs.AnyOrder.{MissingIsNeverSubmitted, LeftOutIsP
 ghost use Rattle.judge_calls.specs.OneVerdict.{VerdictHasItsCondition};
 ghost use Rattle.std.specs.Prelude.{◌≡◌, ◌≤◌, length, true};
 ghost use Rattle.vac_model.specs.Ranges.{is_task};
-ghost use Rattle.vac_lines.specs.TaskText.{task_text};
+ghost use Rattle.vac_model.specs.TaskText.{task_text};
 ghost use Rattle.judge_calls.specs.CallText.{CallTextsAreRead, HistoriesAreRead, IsReadBackAsCall};
 ghost use Rattle.judge_calls.specs.CallText.{answered_call, undetermined, unanswered};
 

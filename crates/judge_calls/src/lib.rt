@@ -28,7 +28,7 @@ pub use answers::numbers_of_a_reply;
 pub use call::{CALL_BYTES, read_call};
 pub use call_line::CallLine;
 pub use fault::CallFault;
-pub use held::{WorkloadVerdict, judge_with_workload, print_workload_verdict, read_all};
+pub use held::{WorkloadVerdict, judge_with_workload, read_all};
 pub use in_order::{OrderVerdict, judge_order_with_workload};
 pub use judge::Judge;
 pub use laws::{
@@ -44,4 +44,4 @@ pub use laws::{
     call_texts_are_read, histories_are_read,
 };
 pub use reading::judge_history;
-pub use verdict::{CallViolation, Summary, Verdict, print_verdict};
+pub use verdict::{CallViolation, Summary, Verdict};

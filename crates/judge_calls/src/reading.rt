@@ -6,10 +6,10 @@ ghost use Rattle.judge_calls.specs.Reading.{HasVerdict, HasJudged, HasStoppedJud
 
 use crate::call::CALL_BYTES;
 use crate::judge::Judge;
-use crate::verdict::{Verdict, print_verdict};
+use crate::verdict::Verdict;
 use std::alloc::Global;
 use std::io::{Read, Write};
-use vac_lines::{Next, Sink, StreamFault, read_lines, write_and_flush};
+use vac_lines::{Next, Sink, StreamFault, print, read_lines, write_and_flush};
 use vac_model::limits::MOST_BLOCKS;
 
 /// A history that is being read.
@@ -105,7 +105,7 @@ pub fn judge_history<R: Read, W: Write>(
 {
     let verdict = judge_input(alloc, blocks, input)?;
     let mut text = Vec::new(alloc);
-    print_verdict(&verdict, &mut text)?;
+    print(verdict, &mut text)?;
     write_and_flush(output, text.as_slice())?;
     Ok(is_legal(&verdict))
 }

@@ -4,7 +4,7 @@ use Rattle.std.specs.List.{All}
 use Rattle.std.proofs.lemmas.List.Elements.{All-weaker}
 use Rattle.std.proofs.lemmas.List.Splits.{slice_split_at, slice_split_none}
 use Rattle.vac_lines.specs.Lines.{words_of, HasNo}
-use Rattle.judge_coverage.specs.Entries.{HeadTexts, head_of}
+use Rattle.judge_coverage.specs.Entries.{head_of}
 
 -- the test for a space
 abbrev is_space : ℕ → Bool

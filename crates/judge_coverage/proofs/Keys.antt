@@ -1,14 +1,12 @@
 -- The keys of moments are in the order of lanes and moments, so that a call runs at a moment if its BEGIN is among
 -- the keys up to the moment, and its END is not.
-use Rattle.std.proofs.Common.{◌≡◌, ℕ, ◌+◌, ◌*◌, ◌-◌, ◌<◌, ◌≤◌, min, max, Bool, true, false, cond, not, ◌&&◌, ◌==◌, List}
-use Rattle.std.proofs.Common.{map}
+use Rattle.std.proofs.Common.{◌≡◌, ℕ, ◌+◌, ◌-◌, ◌<◌, ◌≤◌, max, Bool, true, false, cond, not, ◌&&◌, ◌==◌, List}
 use Rattle.std.proofs.Common.{refl, sym, ap, ◌∙◌, inl, inr, arith, nat_le, nat_lt, ◌⊎◌}
 use Rattle.std.specs.List.{count_by}
 use Rattle.std.proofs.lemmas.Bool.Decides.{nat_tests}
 use Rattle.judge_object.specs.declared.span.Span.{Span}
 use Rattle.judge_object.specs.declared.span.TheConstants.{NEVER}
 use Rattle.judge_coverage.specs.declared.moments.Moments.{Moments}
-use Rattle.judge_coverage.specs.declared.moments.TheConstants.{LANE}
 use Rattle.judge_coverage.specs.declared.meetings.Meetings.{Meetings}
 use Rattle.judge_coverage.specs.Moments.{lane_of, key_of, begin_key, end_key, number_up_to, AreMoments}
 use Rattle.judge_coverage.specs.Meetings.{AreMeetings}

@@ -4,5 +4,4 @@ pub mod Keys
 pub mod Clients
 pub mod Greatest
 pub mod Taking
-pub mod Texts
 pub mod Windows

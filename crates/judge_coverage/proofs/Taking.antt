@@ -1,5 +1,5 @@
 -- The lines that a collector takes, chunk by chunk.
-use Rattle.std.proofs.Common.{◌≡◌, ℕ, ◌+◌, ◌<◌, Option, List, [], ◌∷◌, ◌++◌, length, take, refl, ap, sym, ◌∙◌, subst}
+use Rattle.std.proofs.Common.{◌≡◌, ℕ, ◌+◌, ◌<◌, Option, List, [], ◌∷◌, ◌++◌, length, take, ap, sym, ◌∙◌, subst}
 use Rattle.std.proofs.Common.{append-nil, append_assoc, cond, Result, Ok, Err, is_ok, OnOk}
 use Rattle.std.specs.List.{filter_map}
 use Rattle.std.proofs.lemmas.List.Elements.{filter_map-append}
@@ -8,7 +8,6 @@ use Rattle.vac_lines.specs.Told.{Message, message_of, line_messages}
 use Rattle.vac_lines.proofs.LineCuts.{told_prefix, told_cut, told_moved, told_last, told_none}
 use Rattle.vac_lines.proofs.LineCuts.{has_begun, nothing_begun}
 use Rattle.judge_coverage.specs.declared.collector.Collector.{Collector}
-use Rattle.judge_coverage.specs.declared.entries.Entries.{Entries}
 use Rattle.judge_coverage.specs.Entries.{told_interval, told_outcome}
 use Rattle.judge_coverage.specs.Passing.{AddsLine, TakesLine, HasTaken, AreEntriesOf}
 
@@ -21,18 +20,6 @@ pub record HasTakenTo (longest : ℕ) (bytes chunk rest : List ℕ) (collector :
       ≡ told ++ line_messages longest (collector.line.items ++ (rest ++ more))
   pub intervals : collector.entries.intervals.items ≡ filter_map told_interval told
   pub outcomes : collector.entries.outcomes.items ≡ filter_map told_outcome told
-
--- nothing of the chunk was taken yet
-pub taken_first : (longest : ℕ) (bytes chunk : List ℕ) (collector : Collector) →
-    HasTaken longest collector bytes → HasTakenTo longest bytes chunk chunk collector
-taken_first longest bytes chunk collector h = record {
-  longest_is = h.longest_is;
-  begun = h.begun;
-  told = h.told;
-  same = λ more. h.same (chunk ++ more);
-  intervals = h.intervals;
-  outcomes = h.outcomes;
-}
 
 -- the entries of one more line
 entries_more : {X : Type 0} (f : Message → Option X) (told : List Message) (line : Message) (before after : List X) →

@@ -1,14 +1,13 @@
 -- The texts of the figures of a log, a line for each figure, and the warning about a log that shows
 -- little.
-use Rattle.std.specs.Prelude.{ℕ, ◌*◌, ◌==◌, List, [], ◌++◌, codes, nat_lt, if◌then◌else◌}
+use Rattle.std.specs.Prelude.{ℕ, ◌*◌, ◌==◌, List, [], ◌++◌, codes, decimal, nat_lt, if◌then◌else◌}
 use Rattle.vac_lines.specs.Script.{as_line}
-use Rattle.vac_lines.specs.Text.{field_text}
 use Rattle.judge_coverage.specs.declared.coverage.Coverage.{Coverage}
 use Rattle.judge_coverage.specs.declared.attempts.AttemptCoverage.{AttemptCoverage}
 
 -- a line with a name and a number
 abbrev pub fact_line : List ℕ → ℕ → List ℕ
-fact_line name number = as_line (field_text name number)
+fact_line name number = as_line (name ++ decimal number)
 
 -- the lines about calls
 abbrev pub calls_coverage_text : Coverage → List ℕ

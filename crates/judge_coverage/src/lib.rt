@@ -20,8 +20,5 @@ mod watched;
 pub use attempts::{AttemptCoverage, Outcome, measure_attempts};
 pub use coverage::{Coverage, measure_calls};
 pub use entries::MOST_ENTRIES;
-pub use text::{
-    print_attempts_coverage, print_attempts_warning, print_calls_coverage, print_calls_warning,
-    print_pending_warning,
-};
+pub use text::{AttemptsWarning, CallsWarning, PendingWarning};
 pub use watched::Watched;

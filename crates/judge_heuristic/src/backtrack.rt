@@ -3,10 +3,10 @@
 use crate::choice_points::Pair;
 use crate::layout::Layout;
 use crate::search::{Cut, Quick, QuickSearch, led_to};
+use crate::trail::places_of;
 use judge_object::{Line, Object};
-use judge_reservations::ValidTask;
 use std::alloc::{AllocError, Global};
-use vac_model::Reply;
+use vac_model::{Reply, ValidTask};
 
 impl<M: Object<Op = ValidTask, Reply = Reply> + Drop> QuickSearch<M> {
     /// Cuts the trail after `at` calls, with its choice points and kept states, and returns the
@@ -33,17 +33,20 @@ impl<M: Object<Op = ValidTask, Reply = Reply> + Drop> QuickSearch<M> {
     /// Empties the plan.
     fn plan_none(&mut self, alloc: Global) {
         self.plan = Vec::new(alloc);
-        self.choice_points.plan_none(alloc);
+        self.choice_points.again = Vec::new(alloc);
     }
 
-    /// Puts back a cut part, in the place of all calls made since.
-    fn put_back(
+    /// Puts back the last cut part, in the place of all calls made since. Returns whether there
+    /// was a cut part.
+    fn undo(
         &mut self,
         alloc: Global,
         lines: &[Line<ValidTask>],
         layout: &Layout,
-        cut: Cut<M>,
-    ) -> Result<(), AllocError> {
+    ) -> Result<bool, AllocError> {
+        let Some(cut) = self.cut.take() else {
+            return Ok(false);
+        };
         let Cut {
             at,
             tail,
@@ -57,51 +60,12 @@ impl<M: Object<Op = ValidTask, Reply = Reply> + Drop> QuickSearch<M> {
         self.choice_points.put_back(choice_points)?;
         self.saved_states.put_back(saved_states)?;
         self.plan_none(alloc);
-        Ok(())
-    }
-
-    /// Plans the calls of the cut part again, with their choice points.
-    fn plan_again(&mut self, alloc: Global) -> Result<(), AllocError> {
-        let Some(cut) = &self.cut else {
-            return Ok(());
-        };
-        self.plan = cut.tail.places(alloc)?;
-        self.choice_points.plan(alloc, cut.choice_points.as_slice())
-    }
-
-    /// Puts back the last cut part. Returns whether there was one.
-    fn undo(
-        &mut self,
-        alloc: Global,
-        lines: &[Line<ValidTask>],
-        layout: &Layout,
-    ) -> Result<bool, AllocError> {
-        let Some(cut) = self.cut.take() else {
-            return Ok(false);
-        };
-        self.put_back(alloc, lines, layout, cut)?;
         Ok(true)
     }
 
-    /// Makes the call at a position in the place of the cut part, if the call gives its reply, and
-    /// plans the cut part again. Puts the cut part back if the call does not give its reply.
-    fn make_instead(
-        &mut self,
-        alloc: Global,
-        lines: &[Line<ValidTask>],
-        layout: &Layout,
-        place: usize,
-    ) -> Result<bool, AllocError> {
-        let Some(next) = led_to(&mut self.text, self.machine.as_ref(), lines, place)? else {
-            self.undo(alloc, lines, layout)?;
-            return Ok(false);
-        };
-        self.move_to(next)?;
-        self.plan_again(alloc)?;
-        Ok(true)
-    }
-
-    /// Decides a choice point the other way, and plans the calls after it again.
+    /// Decides a choice point the other way, and plans the calls after it again, with their choice
+    /// points. If the other call does not give its reply there, the trail stays and the plan is
+    /// empty.
     fn jump(
         &mut self,
         alloc: Global,
@@ -113,10 +77,18 @@ impl<M: Object<Op = ValidTask, Reply = Reply> + Drop> QuickSearch<M> {
             return Ok(None);
         };
         self.cut = Some(self.cut_to(alloc, lines, layout, at)?);
-        self.trail.settle_before(at);
+        self.trail.settled = self.trail.settled.min(at);
         self.make_again(lines)?;
-        if !self.make_instead(alloc, lines, layout, pair.other)? {
+        let machine = self.machine.as_ref();
+        let Some(next) = led_to(&mut self.text, machine, lines, pair.other)? else {
+            self.undo(alloc, lines, layout)?;
             return Ok(None);
+        };
+        self.move_to(next)?;
+        if let Some(cut) = &self.cut {
+            self.plan = places_of(alloc, cut.tail.turns.as_slice())?;
+            self.choice_points
+                .plan(alloc, cut.choice_points.as_slice())?;
         }
         Ok(Some(self.go_on(lines, layout, pair.other)?))
     }
@@ -128,7 +100,7 @@ impl<M: Object<Op = ValidTask, Reply = Reply> + Drop> QuickSearch<M> {
         lines: &[Line<ValidTask>],
         layout: &Layout,
     ) -> Result<Option<Quick>, AllocError> {
-        for _ in 0..self.choice_points.left() {
+        for _ in 0..self.choice_points.tries.len() {
             let Some(pair) = self.choice_points.next_try() else {
                 break;
             };
@@ -159,16 +131,6 @@ impl<M: Object<Op = ValidTask, Reply = Reply> + Drop> QuickSearch<M> {
         Ok(quick)
     }
 
-    /// Takes back up to `count` calls, and leaves the state as it is.
-    fn go_back(&mut self, lines: &[Line<ValidTask>], layout: &Layout, count: u64) {
-        for _ in 0..count {
-            let Some(length) = self.trail.go_back(lines, layout) else {
-                return;
-            };
-            self.choice_points.forget(length);
-        }
-    }
-
     /// Goes back a random number of calls, which tends to grow with the number of backtracks.
     /// Gives up after too many backtracks.
     fn backtrack(
@@ -181,33 +143,28 @@ impl<M: Object<Op = ValidTask, Reply = Reply> + Drop> QuickSearch<M> {
             return Ok(Quick::Missed);
         };
         self.plan_none(alloc);
-        self.go_back(lines, layout, count);
-        self.saved_states.cut(alloc, self.trail.len())?;
+        for _ in 0..count {
+            let Some(length) = self.trail.go_back(lines, layout) else {
+                break;
+            };
+            self.choice_points.forget(length);
+        }
+        self.saved_states.cut(alloc, self.trail.path.len())?;
         self.make_again(lines)?;
         Ok(Quick::On)
     }
 
-    /// Undoes the last try. If there was none, collects choice points to try.
-    fn find_tries(
-        &mut self,
-        alloc: Global,
-        lines: &[Line<ValidTask>],
-        layout: &Layout,
-    ) -> Result<(), AllocError> {
-        if !self.undo(alloc, lines, layout)? && self.counts.count_jump() {
-            return self.choice_points.find_tries(alloc, &self.trail, layout);
-        }
-        Ok(())
-    }
-
-    /// Continues the search when no call fits.
+    /// Continues the search when no call fits: undoes the last try, or collects choice points to
+    /// try if there was none, and tries the next one.
     pub(crate) fn turn_back(
         &mut self,
         alloc: Global,
         lines: &[Line<ValidTask>],
         layout: &Layout,
     ) -> Result<Quick, AllocError> {
-        self.find_tries(alloc, lines, layout)?;
+        if !self.undo(alloc, lines, layout)? && self.counts.count_jump() {
+            self.choice_points.find_tries(alloc, &self.trail, layout)?;
+        }
         if let Some(quick) = self.try_next(alloc, lines, layout)? {
             return Ok(quick);
         }

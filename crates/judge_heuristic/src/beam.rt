@@ -12,10 +12,9 @@ use crate::configuration::{Chain, Configuration};
 use crate::layout::Layout;
 use crate::successors::{Successor, Successors};
 use judge_object::{Line, Object, Watcher};
-use judge_reservations::ValidTask;
 use std::alloc::{AllocError, Global};
-use std::collections::BTreeMap;
-use vac_model::Reply;
+use std::collections::BTreeSet;
+use vac_model::{Reply, ValidTask};
 
 /// Largest number of times that the search turns back before it places more calls than ever.
 const MOST_RESTARTS: u64 = 5;
@@ -74,7 +73,7 @@ struct Beam<M> {
     kept: Vec<Configuration<M>>,
     level: u64,
     /// The hashes of the configurations that are kept.
-    seen: BTreeMap<u64, usize>,
+    seen: BTreeSet<u64>,
     /// The calls that were placed, in all configurations.
     steps: Vec<Step>,
     checkpoints: Vec<Checkpoint<M>>,
@@ -109,8 +108,8 @@ fn copies<M: Object<Op = ValidTask, Reply = Reply> + Drop>(
     kept: &[Configuration<M>],
 ) -> Result<Vec<Configuration<M>>, AllocError> {
     let mut copies = Vec::new(alloc);
-    for number in 0..kept.len() {
-        copies.push(kept[number].copy(alloc)?)?;
+    for configuration in kept {
+        copies.push(configuration.copy(alloc)?)?;
     }
     Ok(copies)
 }
@@ -118,8 +117,8 @@ fn copies<M: Object<Op = ValidTask, Reply = Reply> + Drop>(
 /// Returns the least cost of a configuration.
 fn least_cost<M>(successors: &[Successor<M>]) -> u64 {
     let mut least = u64::MAX;
-    for number in 0..successors.len() {
-        least = least.min(successors[number].configuration.cost);
+    for successor in successors {
+        least = least.min(successor.configuration.cost);
     }
     least
 }
@@ -134,7 +133,7 @@ impl<M: Object<Op = ValidTask, Reply = Reply> + Drop> Beam<M> {
             plan: plan_of(0),
             kept,
             level: 0,
-            seen: BTreeMap::new(alloc),
+            seen: BTreeSet::new(alloc),
             steps: Vec::new(alloc),
             checkpoints: Vec::new(alloc),
             most: 0,
@@ -159,11 +158,10 @@ impl<M: Object<Op = ValidTask, Reply = Reply> + Drop> Beam<M> {
             chain,
             mut configuration,
         } = successor;
-        let hash = configuration.hash();
-        if self.plan.width <= self.kept.len() || self.seen.get(&hash).is_some() {
+        let hash = configuration.key ^ configuration.machine.hash();
+        if self.plan.width <= self.kept.len() || !self.seen.insert(hash)? {
             return Ok(());
         }
-        self.seen.insert(hash, 0)?;
         let Chain {
             first,
             second,
@@ -203,7 +201,7 @@ impl<M: Object<Op = ValidTask, Reply = Reply> + Drop> Beam<M> {
         count: usize,
         mut successors: Vec<Successor<M>>,
     ) -> Result<(), AllocError> {
-        self.seen = BTreeMap::new(self.alloc);
+        self.seen = BTreeSet::new(self.alloc);
         let least = least_cost(successors.as_slice());
         for more in 0..MOST_SPREAD {
             if successors.is_empty() || self.plan.width <= self.kept.len() {
@@ -223,17 +221,18 @@ impl<M: Object<Op = ValidTask, Reply = Reply> + Drop> Beam<M> {
                 successors.expand(lines, layout, &configuration)?;
             }
         }
-        self.keep_best(lines.len(), successors.taken())
+        self.keep_best(lines.len(), successors.offered)
     }
 
     /// Notes a checkpoint, if the next one is due.
     fn note_checkpoint(&mut self) -> Result<(), AllocError> {
-        let count = self.checkpoints.len();
         let level = self.level;
-        if 0 < count && level < self.checkpoints[count - 1].level.saturating_add(STRIDE) {
+        if let Some(last) = self.checkpoints.last()
+            && level < last.level.saturating_add(STRIDE)
+        {
             return Ok(());
         }
-        if MOST_CHECKPOINTS <= count {
+        if MOST_CHECKPOINTS <= self.checkpoints.len() {
             self.checkpoints.remove(0);
         }
         let kept = copies(self.alloc, self.kept.as_slice())?;
@@ -322,10 +321,8 @@ pub(crate) fn find_by_beam<M: Object<Op = ValidTask, Reply = Reply> + Drop, P: W
     steps: u64,
     watcher: &mut P,
 ) -> Result<Option<Vec<usize>>, AllocError> {
-    let mut beam = Beam::new(
-        alloc,
-        Configuration::new(machine.copy()?, layout.firsts(alloc)?),
-    )?;
+    let firsts = Vec::from_slice(alloc, layout.firsts.as_slice())?;
+    let mut beam = Beam::new(alloc, Configuration::new(machine.copy()?, firsts))?;
     let most = lines.len().saturating_mul(MOST_FOR_EACH).min(MOST_IN_ALL);
     for made in 0..steps {
         watcher.tell(beam.level, made);

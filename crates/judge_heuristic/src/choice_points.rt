@@ -32,17 +32,16 @@ pub(crate) struct ChoicePoints {
     /// The choice points on the trail, the earliest first.
     kept: Vec<ChoicePoint>,
     /// The choice points about the planned calls, the next one last.
-    again: Vec<Pair>,
+    pub(crate) again: Vec<Pair>,
     /// The choice points to try when no call fits, and the number of those already tried.
-    tries: Vec<Pair>,
+    pub(crate) tries: Vec<Pair>,
     tried: usize,
 }
 
 /// Returns whether one of the calls of a choice point meets one of the calls at these positions.
 fn meets_any(layout: &Layout, pair: Pair, places: &[usize]) -> bool {
-    for number in 0..places.len() {
-        let place = places[number];
-        if layout.meets(pair.taken, place) || layout.meets(pair.other, place) {
+    for place in places {
+        if layout.meets(pair.taken, *place) || layout.meets(pair.other, *place) {
             return true;
         }
     }
@@ -73,10 +72,7 @@ impl ChoicePoints {
 
     /// Returns the number of calls before the first choice point, if there is one.
     pub(crate) fn first(&self) -> Option<usize> {
-        if self.kept.is_empty() {
-            return None;
-        }
-        Some(self.kept[0].at)
+        Some(self.kept.first()?.at)
     }
 
     /// Adds a choice between two calls after `at` calls. The oldest choice point is dropped if
@@ -117,7 +113,7 @@ impl ChoicePoints {
         let mut choice_points = Vec::new(alloc);
         for _ in 0..self.kept.len() {
             match self.take(length) {
-                Some(add_choice_point) => choice_points.push(add_choice_point)?,
+                Some(choice_point) => choice_points.push(choice_point)?,
                 None => break,
             }
         }
@@ -130,16 +126,11 @@ impl ChoicePoints {
         mut choice_points: Vec<ChoicePoint>,
     ) -> Result<(), AllocError> {
         for _ in 0..choice_points.len() {
-            if let Some(add_choice_point) = choice_points.pop() {
-                self.kept.push(add_choice_point)?;
+            if let Some(choice_point) = choice_points.pop() {
+                self.kept.push(choice_point)?;
             }
         }
         Ok(())
-    }
-
-    /// Drops the choice points about planned calls.
-    pub(crate) fn plan_none(&mut self, alloc: Global) {
-        self.again = Vec::new(alloc);
     }
 
     /// Replaces the choice points about planned calls by these.
@@ -149,8 +140,8 @@ impl ChoicePoints {
         choice_points: &[ChoicePoint],
     ) -> Result<(), AllocError> {
         let mut again = Vec::new(alloc);
-        for number in 0..choice_points.len() {
-            again.push(choice_points[number].pair)?;
+        for choice_point in choice_points {
+            again.push(choice_point.pair)?;
         }
         self.again = again;
         Ok(())
@@ -174,7 +165,7 @@ impl ChoicePoints {
             }
             self.again.pop();
             if pair.taken == place && !trail.is_made(layout, pair.other) {
-                self.add(trail.len(), pair)?;
+                self.add(trail.path.len(), pair)?;
             }
         }
         Ok(())
@@ -183,14 +174,11 @@ impl ChoicePoints {
     /// Returns the choice point with this number, if its taken call stands at that point of the
     /// trail.
     fn get(&self, trail: &Trail, number: usize) -> Option<ChoicePoint> {
-        if self.kept.len() <= number {
+        let found = *self.kept.get(number)?;
+        if trail.path.get(found.at)?.place != found.pair.taken {
             return None;
         }
-        let add_choice_point = self.kept[number];
-        if !trail.is_at(add_choice_point.at, add_choice_point.pair.taken) {
-            return None;
-        }
-        Some(add_choice_point)
+        Some(found)
     }
 
     /// Returns the number of calls before the last choice point with this pair of calls.
@@ -249,18 +237,11 @@ impl ChoicePoints {
         self.add_tries(trail, layout, met.as_slice(), Some(low))
     }
 
-    /// Returns the number of choice points that are left to try.
-    pub(crate) fn left(&self) -> usize {
-        self.tries.len().saturating_sub(self.tried)
-    }
-
     /// Returns the next choice point to try.
     pub(crate) fn next_try(&mut self) -> Option<Pair> {
-        if self.tries.len() <= self.tried {
-            return None;
-        }
+        let next = *self.tries.get(self.tried)?;
         self.tried += 1;
-        Some(self.tries[self.tried - 1])
+        Some(next)
     }
 
     /// Gives up the choice points that were not tried.
@@ -270,10 +251,7 @@ impl ChoicePoints {
 
     /// Returns the first of the collected choice points, and drops the collection.
     pub(crate) fn take_tried(&mut self, alloc: Global) -> Option<Pair> {
-        if self.tries.is_empty() {
-            return None;
-        }
-        let first = self.tries[0];
+        let first = *self.tries.first()?;
         self.tries = Vec::new(alloc);
         Some(first)
     }

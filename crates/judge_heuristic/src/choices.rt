@@ -4,9 +4,8 @@ use crate::layout::Layout;
 use crate::search::{QuickSearch, led_from, led_to};
 use crate::trail::{Trail, is_completed};
 use judge_object::{Line, Object};
-use judge_reservations::ValidTask;
 use std::alloc::{AllocError, Global};
-use vac_model::Reply;
+use vac_model::{Reply, ValidTask};
 
 /// Largest number of following calls by which the quality of a choice is measured.
 const FARTHEST: u64 = 128;
@@ -49,25 +48,6 @@ fn reach_of<M: Object<Op = ValidTask, Reply = Reply> + Drop>(
         }
     }
     Ok(count)
-}
-
-/// Returns whether the first helping call is better than the best one so far. Any helping call is
-/// better than none.
-fn is_better<M>(help: &Help<M>, best: &Option<Help<M>>) -> bool {
-    match best {
-        Some(best) => {
-            best.reach < help.reach || best.reach == help.reach && help.place < best.place
-        }
-        None => true,
-    }
-}
-
-/// Returns the position of a helping call, or the number of calls if there is none.
-fn place_of<M>(help: &Option<Help<M>>, count: usize) -> usize {
-    match help {
-        Some(help) => help.place,
-        None => count,
-    }
 }
 
 impl<M: Object<Op = ValidTask, Reply = Reply> + Drop> QuickSearch<M> {
@@ -195,15 +175,19 @@ impl<M: Object<Op = ValidTask, Reply = Reply> + Drop> QuickSearch<M> {
         layout: &Layout,
         is_drawn: bool,
     ) -> Result<(Option<Help<M>>, usize), AllocError> {
-        let mut best = None;
+        let mut best: Option<Help<M>> = None;
         let mut other = lines.len();
         for client in 0..self.trail.heads.len() {
             let place = self.trail.head(client);
             let Some(help) = self.help(lines, layout, place, is_drawn)? else {
                 continue;
             };
-            if is_better(&help, &best) {
-                other = place_of(&best, lines.len());
+            let Some(old) = &best else {
+                best = Some(help);
+                continue;
+            };
+            if old.reach < help.reach || old.reach == help.reach && place < old.place {
+                other = old.place;
                 best = Some(help);
             } else {
                 other = place;
@@ -243,24 +227,10 @@ impl<M: Object<Op = ValidTask, Reply = Reply> + Drop> QuickSearch<M> {
         Ok(Some(place))
     }
 
-    /// Makes a planned call, which may come next. Returns whether the call gives its reply there.
-    fn keep_to_plan(
-        &mut self,
-        lines: &[Line<ValidTask>],
-        layout: &Layout,
-        place: usize,
-    ) -> Result<bool, AllocError> {
-        if !self.attempt(lines, place)? {
-            return Ok(false);
-        }
-        self.choice_points.note_again(&self.trail, layout, place)?;
-        Ok(true)
-    }
-
     /// Makes the next planned call, and returns its position. A planned call that does not give
     /// its reply is left out. Returns `None` if the plan is empty, if the next planned call may
     /// not come next, or if it is the call that ends first and does not give its reply.
-    fn planned(
+    pub(crate) fn planned(
         &mut self,
         lines: &[Line<ValidTask>],
         layout: &Layout,
@@ -273,7 +243,8 @@ impl<M: Object<Op = ValidTask, Reply = Reply> + Drop> QuickSearch<M> {
                 continue;
             }
             let is_open = self.trail.is_open(lines, place);
-            if is_open && self.keep_to_plan(lines, layout, place)? {
+            if is_open && self.attempt(lines, place)? {
+                self.choice_points.note_again(&self.trail, layout, place)?;
                 return Ok(Some(place));
             }
             if place == self.trail.low || !is_open {
@@ -305,7 +276,7 @@ impl<M: Object<Op = ValidTask, Reply = Reply> + Drop> QuickSearch<M> {
     }
 
     /// Makes a call that is not planned, and returns its position.
-    fn unplanned(
+    pub(crate) fn unplanned(
         &mut self,
         alloc: Global,
         lines: &[Line<ValidTask>],
@@ -323,18 +294,5 @@ impl<M: Object<Op = ValidTask, Reply = Reply> + Drop> QuickSearch<M> {
             return Ok(Some(low));
         }
         self.look_ahead(lines, layout, may_look)
-    }
-
-    /// Makes the next call, planned or not, and returns its position.
-    pub(crate) fn choose(
-        &mut self,
-        alloc: Global,
-        lines: &[Line<ValidTask>],
-        layout: &Layout,
-    ) -> Result<Option<usize>, AllocError> {
-        match self.planned(lines, layout)? {
-            Some(place) => Ok(Some(place)),
-            None => self.unplanned(alloc, lines, layout),
-        }
     }
 }

@@ -2,9 +2,8 @@
 
 use crate::layout::Layout;
 use judge_object::{Line, Object};
-use judge_reservations::ValidTask;
 use std::alloc::{AllocError, Global};
-use vac_model::Reply;
+use vac_model::{Reply, ValidTask};
 
 /// Two pending calls that take effect, and a completed call after them, by their positions. The
 /// number of calls stands for a call that is missing.
@@ -28,7 +27,7 @@ pub(crate) struct Configuration<M> {
     /// The number of the last step; 0 if no call is placed.
     pub(crate) last: usize,
     /// A hash of the calls that are placed.
-    key: u64,
+    pub(crate) key: u64,
 }
 
 /// Returns a hash of two numbers.
@@ -66,11 +65,6 @@ impl<M: Object<Op = ValidTask, Reply = Reply> + Drop> Configuration<M> {
         })
     }
 
-    /// Returns a hash of the configuration.
-    pub(crate) fn hash(&self) -> u64 {
-        self.key ^ self.machine.hash()
-    }
-
     /// Returns whether the call at a position, which is its client's next one or a later one, may
     /// be placed before the first call that is not placed has ended.
     pub(crate) fn is_open(&self, lines: &[Line<ValidTask>], place: usize) -> bool {
@@ -106,18 +100,6 @@ impl<M: Object<Op = ValidTask, Reply = Reply> + Drop> Configuration<M> {
         }
     }
 
-    /// Finds the first position whose call is not placed.
-    fn find_low(&mut self, layout: &Layout) {
-        for place in self.low..layout.len() {
-            self.low = place;
-            let client = layout.spot(place).client;
-            if client < self.heads.len() && self.heads[client] <= place {
-                return;
-            }
-        }
-        self.low = layout.len();
-    }
-
     /// Returns the configuration after these calls, which lead to a state and have a cost.
     pub(crate) fn after(
         &self,
@@ -138,7 +120,7 @@ impl<M: Object<Op = ValidTask, Reply = Reply> + Drop> Configuration<M> {
         next.place(layout, chain.first);
         next.place(layout, chain.second);
         next.place(layout, chain.place);
-        next.find_low(layout);
+        next.low = layout.first_left(next.heads.as_slice(), next.low);
         Ok(next)
     }
 }

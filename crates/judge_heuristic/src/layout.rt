@@ -3,10 +3,9 @@
 
 use crate::configuration::Chain;
 use judge_object::{Line, NEVER};
-use judge_reservations::ValidTask;
 use std::alloc::{AllocError, Global};
 use std::collections::BTreeMap;
-use vac_model::{Command, Kind, Task};
+use vac_model::{Command, Kind, Task, ValidTask};
 
 /// The layout of one call.
 #[derive(Clone, Copy)]
@@ -35,16 +34,16 @@ pub(crate) struct Layout {
     /// The items and customers that the calls name, call by call.
     keys: Vec<u64>,
     /// The position of each client's first call.
-    firsts: Vec<usize>,
+    pub(crate) firsts: Vec<usize>,
     /// Number of completed calls.
     pub(crate) completed: u64,
 }
 
-/// The clients of the calls: their numbers, and the position of the last call of each.
+/// A client: its number, and the position of its last call so far.
 #[derive(Drop)]
-struct Clients {
-    numbers: BTreeMap<u32, usize>,
-    lasts: Vec<usize>,
+struct Client {
+    number: usize,
+    last: usize,
 }
 
 /// Returns the key of a customer. Keys number customers and items together.
@@ -57,48 +56,28 @@ fn item_key(kind: Kind, id: u32) -> u64 {
     customer_key(id).wrapping_add(kind.number() + 1)
 }
 
-/// Returns the key of the customer that a command names, if it names one.
-fn named_customer(command: &Command) -> Option<u64> {
+/// Appends the keys of the customer and the item that a command names.
+fn add_command(command: &Command, keys: &mut Vec<u64>) -> Result<(), AllocError> {
     match *command {
         Command::NewCustomer { id } | Command::DropCustomer { id } | Command::Bill { id } => {
-            Some(customer_key(id))
+            keys.push(customer_key(id))?
         }
-        Command::Reserve { customer, .. } | Command::Cancel { customer, .. } => {
-            Some(customer_key(customer))
+        Command::Reserve {
+            customer,
+            kind,
+            id,
+            ..
         }
-        Command::Add { .. }
-        | Command::Delete { .. }
-        | Command::DropFlight { .. }
-        | Command::Free { .. }
-        | Command::Price { .. }
-        | Command::Audit => None,
-    }
-}
-
-/// Returns the key of the item that a command names, if it names one.
-fn named_item(command: &Command) -> Option<u64> {
-    match *command {
+        | Command::Cancel { customer, kind, id } => {
+            keys.push(customer_key(customer))?;
+            keys.push(item_key(kind, id))?;
+        }
         Command::Add { kind, id, .. }
         | Command::Delete { kind, id, .. }
         | Command::Free { kind, id }
-        | Command::Price { kind, id }
-        | Command::Reserve { kind, id, .. }
-        | Command::Cancel { kind, id, .. } => Some(item_key(kind, id)),
-        Command::DropFlight { id } => Some(item_key(Kind::Flight, id)),
-        Command::NewCustomer { .. }
-        | Command::DropCustomer { .. }
-        | Command::Bill { .. }
-        | Command::Audit => None,
-    }
-}
-
-/// Appends the keys of the customer and the item that a command names.
-fn add_command(command: &Command, keys: &mut Vec<u64>) -> Result<(), AllocError> {
-    if let Some(key) = named_customer(command) {
-        keys.push(key)?;
-    }
-    if let Some(key) = named_item(command) {
-        keys.push(key)?;
+        | Command::Price { kind, id } => keys.push(item_key(kind, id))?,
+        Command::DropFlight { id } => keys.push(item_key(Kind::Flight, id))?,
+        Command::Audit => {}
     }
     Ok(())
 }
@@ -121,23 +100,6 @@ fn add_keys(task: &Task, keys: &mut Vec<u64>) -> Result<(), AllocError> {
         }
     }
     Ok(())
-}
-
-/// Returns whether a task may free blocks.
-fn is_freeing(task: &Task) -> bool {
-    match task {
-        Task::Trip { .. } => false,
-        _ => true,
-    }
-}
-
-/// Returns whether a task may read or change items that it does not name.
-fn is_broad(task: &Task) -> bool {
-    match task {
-        Task::Leave { .. } => true,
-        Task::One(Command::DropCustomer { .. }) | Task::One(Command::Audit) => true,
-        _ => false,
-    }
 }
 
 /// Returns whether a reply says that no block is left.
@@ -167,33 +129,6 @@ fn mask_of(keys: &[u64], from: usize) -> u64 {
     mask
 }
 
-/// Returns whether a key is among the keys from position `from` up to position `to`.
-fn is_among(keys: &[u64], from: usize, to: usize, key: u64) -> bool {
-    for place in from..to {
-        if place < keys.len() && keys[place] == key {
-            return true;
-        }
-    }
-    false
-}
-
-impl Clients {
-    /// Returns the number of a client; for a new client, the next free number.
-    fn number(&self, client: u32) -> usize {
-        match self.numbers.get(&client) {
-            Some(number) => *number,
-            None => self.lasts.len(),
-        }
-    }
-
-    /// Adds a client with the next number, whose first call is at this position.
-    fn add(&mut self, client: u32, place: usize) -> Result<(), AllocError> {
-        self.numbers.insert(client, self.lasts.len())?;
-        self.lasts.push(place)?;
-        Ok(())
-    }
-}
-
 impl Layout {
     /// Computes the layout of the calls.
     pub(crate) fn new(alloc: Global, lines: &[Line<ValidTask>]) -> Result<Layout, AllocError> {
@@ -203,10 +138,7 @@ impl Layout {
             firsts: Vec::new(alloc),
             completed: 0,
         };
-        let mut clients = Clients {
-            numbers: BTreeMap::new(alloc),
-            lasts: Vec::new(alloc),
-        };
+        let mut clients = BTreeMap::new(alloc);
         for place in 0..lines.len() {
             let line = &lines[place];
             let client = layout.client_of(&mut clients, line.client, place)?;
@@ -218,18 +150,26 @@ impl Layout {
     /// Returns the number of the client whose next call is at this position.
     fn client_of(
         &mut self,
-        clients: &mut Clients,
+        clients: &mut BTreeMap<u32, Client>,
         client: u32,
         place: usize,
     ) -> Result<usize, AllocError> {
-        let number = clients.number(client);
-        if number < clients.lasts.len() {
-            self.follow(clients.lasts[number], place);
-            clients.lasts.as_mut_slice()[number] = place;
-        } else {
-            clients.add(client, place)?;
-            self.firsts.push(place)?;
+        if let Some(known) = clients.get_mut(&client) {
+            if known.last < self.spots.len() {
+                self.spots.as_mut_slice()[known.last].next = place;
+            }
+            known.last = place;
+            return Ok(known.number);
         }
+        let number = self.firsts.len();
+        self.firsts.push(place)?;
+        clients.insert(
+            client,
+            Client {
+                number,
+                last: place,
+            },
+        )?;
         Ok(number)
     }
 
@@ -240,8 +180,9 @@ impl Layout {
         client: usize,
         count: usize,
     ) -> Result<(), AllocError> {
+        let task = line.op.task();
         let from = self.keys.len();
-        add_keys(line.op.task(), &mut self.keys)?;
+        add_keys(task, &mut self.keys)?;
         if line.end < NEVER {
             self.completed = self.completed.wrapping_add(1);
         }
@@ -252,17 +193,13 @@ impl Layout {
             to: self.keys.len(),
             mask: mask_of(self.keys.as_slice(), from),
             is_full: says_full(&line.reply),
-            is_freeing: is_freeing(line.op.task()),
-            is_broad: is_broad(line.op.task()),
+            is_freeing: !matches!(task, Task::Trip { .. }),
+            is_broad: matches!(
+                task,
+                Task::Leave { .. } | Task::One(Command::DropCustomer { .. } | Command::Audit)
+            ),
         })?;
         Ok(())
-    }
-
-    /// Sets the next call of a client's last call.
-    fn follow(&mut self, last: usize, place: usize) {
-        if last < self.spots.len() {
-            self.spots.as_mut_slice()[last].next = place;
-        }
     }
 
     /// Returns the layout of the call at a position.
@@ -289,8 +226,11 @@ impl Layout {
             return false;
         }
         let keys = self.keys.as_slice();
-        for number in a.from..a.to {
-            if number < keys.len() && is_among(keys, b.from, b.to, keys[number]) {
+        let (Some(keys), Some(others)) = (keys.get(a.from..a.to), keys.get(b.from..b.to)) else {
+            return false;
+        };
+        for key in keys {
+            if others.contains(key) {
                 return true;
             }
         }
@@ -302,32 +242,29 @@ impl Layout {
         self.spot(place).is_broad || self.spot(other).is_broad || self.meets(place, other)
     }
 
-    /// Returns the number of calls.
-    pub(crate) fn len(&self) -> usize {
+    /// Returns the first position from `low` on whose call is not placed; the number of calls if
+    /// there is none. `heads` has the position of each client's next call.
+    pub(crate) fn first_left(&self, heads: &[usize], low: usize) -> usize {
+        for place in low..self.spots.len() {
+            let client = self.spots[place].client;
+            if client < heads.len() && heads[client] <= place {
+                return place;
+            }
+        }
         self.spots.len()
-    }
-
-    /// Returns whether a call is pending.
-    pub(crate) fn has_pending(&self) -> bool {
-        self.completed < self.len() as u64
     }
 
     /// Returns the chain of one call.
     pub(crate) fn one(&self, place: usize) -> Chain {
-        self.two(self.len(), place)
+        self.two(self.spots.len(), place)
     }
 
     /// Returns the chain of two calls.
     pub(crate) fn two(&self, first: usize, place: usize) -> Chain {
         Chain {
             first,
-            second: self.len(),
+            second: self.spots.len(),
             place,
         }
-    }
-
-    /// Returns the position of each client's first call.
-    pub(crate) fn firsts(&self, alloc: Global) -> Result<Vec<usize>, AllocError> {
-        Vec::from_slice(alloc, self.firsts.as_slice())
     }
 }

@@ -19,10 +19,10 @@
 use crate::beam::find_by_beam;
 use crate::layout::Layout;
 use crate::search::{Quick, QuickSearch};
+use crate::trail::places_of;
 use judge_object::{Line, Object, Watcher};
-use judge_reservations::ValidTask;
 use std::alloc::{AllocError, Global};
-use vac_model::Reply;
+use vac_model::{Reply, ValidTask};
 
 impl<M: Object<Op = ValidTask, Reply = Reply> + Drop> QuickSearch<M> {
     /// Makes one step of the search.
@@ -32,7 +32,11 @@ impl<M: Object<Op = ValidTask, Reply = Reply> + Drop> QuickSearch<M> {
         lines: &[Line<ValidTask>],
         layout: &Layout,
     ) -> Result<Quick, AllocError> {
-        match self.choose(alloc, lines, layout)? {
+        let next = match self.planned(lines, layout)? {
+            Some(place) => Some(place),
+            None => self.unplanned(alloc, lines, layout)?,
+        };
+        match next {
             Some(place) => self.go_on(lines, layout, place),
             None => self.turn_back(alloc, lines, layout),
         }
@@ -55,7 +59,7 @@ pub fn find_quickly<M: Object<Op = ValidTask, Reply = Reply> + Drop, P: Watcher>
     if layout.completed == 0 {
         return Ok(None);
     }
-    if layout.has_pending()
+    if layout.completed < lines.len() as u64
         && let Some(places) = find_by_beam(alloc, lines, &layout, &machine, steps, watcher)?
     {
         return Ok(Some(places));
@@ -65,7 +69,7 @@ pub fn find_quickly<M: Object<Op = ValidTask, Reply = Reply> + Drop, P: Watcher>
         watcher.tell(search.trail.placed, made);
         match search.step(alloc, lines, &layout)? {
             Quick::On => {}
-            Quick::Found => return Ok(Some(search.trail.places(alloc)?)),
+            Quick::Found => return Ok(Some(places_of(alloc, search.trail.path.as_slice())?)),
             Quick::Missed => return Ok(None),
         }
     }

@@ -1,12 +1,10 @@
 //! Kept states of a quick search, from which it rebuilds the state after going back.
 
-use crate::search::made_at;
 use crate::trail::Turn;
 use judge_object::{Line, Object};
-use judge_reservations::ValidTask;
 use std::alloc::{AllocError, Global};
 use std::collections::VecDeque;
-use vac_model::Reply;
+use vac_model::{Reply, ValidTask};
 
 /// Largest number of calls between two kept states. A kept state shares its data with the running
 /// one, so the calls after it copy what they change; going back makes fewer calls again than were
@@ -41,14 +39,6 @@ impl<M: Object<Op = ValidTask, Reply = Reply> + Drop> SavedStates<M> {
             kept: VecDeque::new(alloc),
             stride: 1,
             most: MOST_KEPT,
-        }
-    }
-
-    /// Returns whether the state after `at` calls is due to be kept.
-    fn is_due(&self, at: usize) -> bool {
-        match self.kept.back() {
-            Some(last) => last.at.saturating_add(self.stride) <= at,
-            None => true,
         }
     }
 
@@ -88,10 +78,13 @@ impl<M: Object<Op = ValidTask, Reply = Reply> + Drop> SavedStates<M> {
 
     /// Keeps the state after `at` calls, if it is due.
     pub(crate) fn keep(&mut self, at: usize, machine: &M) -> Result<(), AllocError> {
-        if self.is_due(at) {
-            self.push(at, machine)?;
-            self.stride = self.stride.saturating_mul(2).min(MOST_STRIDE);
+        if let Some(last) = self.kept.back()
+            && at < last.at.saturating_add(self.stride)
+        {
+            return Ok(());
         }
+        self.push(at, machine)?;
+        self.stride = self.stride.saturating_mul(2).min(MOST_STRIDE);
         Ok(())
     }
 
@@ -118,28 +111,18 @@ impl<M: Object<Op = ValidTask, Reply = Reply> + Drop> SavedStates<M> {
         path: &[Turn],
     ) -> Result<Option<M>, AllocError> {
         self.stride = 1;
-        let Some(SavedState { at, mut machine }) = self.last()? else {
+        let Some(last) = self.kept.back() else {
             return Ok(None);
         };
+        let (at, mut machine) = (last.at, last.machine.copy()?);
         for number in at..path.len() {
             self.keep_halfway(number, path.len(), &machine)?;
-            match made_at(machine, lines, path[number].place)? {
-                Some((next, _)) => machine = next,
-                None => return Ok(None),
-            }
+            let Some(line) = lines.get(path[number].place) else {
+                return Ok(None);
+            };
+            machine = machine.made(&line.op)?.0;
         }
         Ok(Some(machine))
-    }
-
-    /// Returns a copy of the last kept state.
-    fn last(&self) -> Result<Option<SavedState<M>>, AllocError> {
-        match self.kept.back() {
-            Some(last) => Ok(Some(SavedState {
-                at: last.at,
-                machine: last.machine.copy()?,
-            })),
-            None => Ok(None),
-        }
     }
 
     /// Drops the states that are not needed to go back to `at` calls or more.

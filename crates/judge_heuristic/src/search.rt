@@ -1,17 +1,13 @@
 //! The data of a quick search: its current position and the way there.
 
-ghost use Rattle.std.specs.Prelude.{◌<◌, length, IfOk, IfSome};
-
 use crate::choice_points::{ChoicePoint, ChoicePoints, Pair};
 use crate::counts::SearchCounts;
 use crate::layout::Layout;
 use crate::saved_states::{SavedState, SavedStates};
 use crate::trail::{Tail, Trail};
-use judge_object::{Line, Object};
-use judge_reservations::ValidTask;
+use judge_object::{Line, Object, is_right};
 use std::alloc::{AllocError, Global};
-use vac_lines::is_right;
-use vac_model::Reply;
+use vac_model::{Reply, ValidTask};
 
 /// A part that was cut off the trail: the number of calls before it, its calls, its choice points
 /// and its kept states, each with the earliest last, and the state at the end of the trail.
@@ -53,21 +49,6 @@ pub(crate) enum Quick {
     Missed,
 }
 
-/// Runs the call at a position, if there is one, and returns the next state and the reply. The
-/// given state is used up.
-pub(crate) fn made_at<M: Object<Op = ValidTask, Reply = Reply> + Drop>(
-    machine: M,
-    lines: &[Line<ValidTask>],
-    place: usize,
-) -> Result<Option<(M, Reply)>, AllocError>
-    ensures { IfOk result (λ made. IfSome made (λ _. place < length lines.now)) }
-{
-    if lines.len() <= place {
-        return Ok(None);
-    }
-    Ok(Some(machine.made(&lines[place].op)?))
-}
-
 /// Runs a call, and returns the next state if the call gives its reply. The given state is used
 /// up, and the buffer is overwritten with the text of the reply.
 pub(crate) fn led_from<M: Object<Op = ValidTask, Reply = Reply> + Drop>(
@@ -76,10 +57,11 @@ pub(crate) fn led_from<M: Object<Op = ValidTask, Reply = Reply> + Drop>(
     lines: &[Line<ValidTask>],
     place: usize,
 ) -> Result<Option<M>, AllocError> {
-    let Some((next, reply)) = made_at(machine, lines, place)? else {
+    let Some(line) = lines.get(place) else {
         return Ok(None);
     };
-    if is_right(text, &lines[place].reply, &reply)? {
+    let (next, reply) = machine.made(&line.op)?;
+    if is_right::<M>(text, &line.reply, &reply)? {
         Ok(Some(next))
     } else {
         Ok(None)
@@ -125,13 +107,13 @@ impl<M: Object<Op = ValidTask, Reply = Reply> + Drop> QuickSearch<M> {
         other: usize,
     ) -> Result<(), AllocError> {
         self.choice_points
-            .add(self.trail.len(), Pair { taken, other })
+            .add(self.trail.path.len(), Pair { taken, other })
     }
 
     /// Keeps the current state, if the next one is due.
     fn keep(&mut self) -> Result<(), AllocError> {
         match &self.machine {
-            Some(machine) => self.saved_states.keep(self.trail.len(), machine),
+            Some(machine) => self.saved_states.keep(self.trail.path.len(), machine),
             None => Ok(()),
         }
     }

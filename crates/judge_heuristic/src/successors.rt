@@ -5,9 +5,8 @@ use crate::layout::Layout;
 use crate::search::led_to;
 use crate::trail::is_completed;
 use judge_object::{Line, Object};
-use judge_reservations::ValidTask;
 use std::alloc::{AllocError, Global};
-use vac_model::Reply;
+use vac_model::{Reply, ValidTask};
 
 /// Costs: of a completed call that comes before the call that ends first although that call gives
 /// its reply in either order, or gives it in neither order; of such a call after which the call
@@ -34,7 +33,7 @@ pub(crate) struct Successor<M> {
 #[derive(Drop)]
 pub(crate) struct Successors<M> {
     alloc: Global,
-    successors: Vec<Successor<M>>,
+    pub(crate) offered: Vec<Successor<M>>,
     /// Buffer for the text of the last compared reply.
     text: Vec<u8>,
     /// True if pending calls that are not needed, and all completed calls that may come next, are
@@ -47,15 +46,10 @@ impl<M: Object<Op = ValidTask, Reply = Reply> + Drop> Successors<M> {
     pub(crate) fn new(alloc: Global, is_wide: bool) -> Successors<M> {
         Successors {
             alloc,
-            successors: Vec::new(alloc),
+            offered: Vec::new(alloc),
             text: Vec::new(alloc),
             is_wide,
         }
-    }
-
-    /// Returns all configurations.
-    pub(crate) fn taken(self) -> Vec<Successor<M>> {
-        self.successors
     }
 
     /// Offers the configuration after these calls, which lead to a state and have a cost.
@@ -67,7 +61,7 @@ impl<M: Object<Op = ValidTask, Reply = Reply> + Drop> Successors<M> {
         reached: (M, u64),
     ) -> Result<(), AllocError> {
         let configuration = from.after(self.alloc, layout, chain, reached)?;
-        self.successors.push(Successor {
+        self.offered.push(Successor {
             chain,
             configuration,
         })?;

@@ -2,8 +2,8 @@
 
 use crate::layout::Layout;
 use judge_object::{Line, NEVER};
-use judge_reservations::ValidTask;
 use std::alloc::{AllocError, Global};
+use vac_model::ValidTask;
 
 /// Largest number of calls that the search takes back one by one.
 const MOST_BACK: usize = 8_192;
@@ -23,7 +23,7 @@ pub(crate) struct Turn {
 /// Calls that were taken back, the earliest last, with the trail's data after them.
 #[derive(Drop)]
 pub(crate) struct Tail {
-    turns: Vec<Turn>,
+    pub(crate) turns: Vec<Turn>,
     low: usize,
     is_full: bool,
     pub(crate) settled: usize,
@@ -43,7 +43,7 @@ pub(crate) struct Trail {
     /// True if all blocks are known to be in use.
     is_full: bool,
     /// Number of first calls that are not taken back one by one.
-    settled: usize,
+    pub(crate) settled: usize,
 }
 
 /// Returns whether the call at a position is completed.
@@ -51,15 +51,13 @@ pub(crate) fn is_completed(lines: &[Line<ValidTask>], place: usize) -> bool {
     place < lines.len() && lines[place].end < NEVER
 }
 
-impl Tail {
-    /// Returns the positions of the calls, the earliest last.
-    pub(crate) fn places(&self, alloc: Global) -> Result<Vec<usize>, AllocError> {
-        let mut places = Vec::new(alloc);
-        for number in 0..self.turns.len() {
-            places.push(self.turns[number].place)?;
-        }
-        Ok(places)
+/// Returns the positions of calls.
+pub(crate) fn places_of(alloc: Global, turns: &[Turn]) -> Result<Vec<usize>, AllocError> {
+    let mut places = Vec::new(alloc);
+    for turn in turns {
+        places.push(turn.place)?;
     }
+    Ok(places)
 }
 
 impl Trail {
@@ -69,15 +67,10 @@ impl Trail {
             path: Vec::new(alloc),
             placed: 0,
             low: 0,
-            heads: layout.firsts(alloc)?,
+            heads: Vec::from_slice(alloc, layout.firsts.as_slice())?,
             is_full: false,
             settled: 0,
         })
-    }
-
-    /// Returns the number of calls that were made.
-    pub(crate) fn len(&self) -> usize {
-        self.path.len()
     }
 
     /// Returns the position of a client's next call.
@@ -106,22 +99,6 @@ impl Trail {
         place < lines.len()
             && self.low < lines.len()
             && u128::from(lines[place].begin) <= lines[self.low].end
-    }
-
-    /// Returns whether the call at a position was made as the call with this number.
-    pub(crate) fn is_at(&self, number: usize, place: usize) -> bool {
-        number < self.path.len() && self.path[number].place == place
-    }
-
-    /// Finds the first position whose call is not placed.
-    fn find_low(&mut self, lines: &[Line<ValidTask>], layout: &Layout) {
-        for place in self.low..lines.len() {
-            self.low = place;
-            if !self.is_made(layout, place) {
-                return;
-            }
-        }
-        self.low = lines.len();
     }
 
     /// Appends a call to the trail.
@@ -166,7 +143,7 @@ impl Trail {
             is_full: self.is_full,
         };
         self.add(lines, layout, turn)?;
-        self.find_low(lines, layout);
+        self.low = layout.first_left(self.heads.as_slice(), self.low);
         self.is_full = spot.is_full || self.is_full && !spot.is_freeing;
         Ok(())
     }
@@ -185,11 +162,6 @@ impl Trail {
         let far = self.path.len().saturating_sub(MOST_BACK);
         self.settled = far.max(self.settled);
         self.settled
-    }
-
-    /// Limits the settled calls to the first `at` calls.
-    pub(crate) fn settle_before(&mut self, at: usize) {
-        self.settled = self.settled.min(at);
     }
 
     /// Takes back all calls but the first `at` calls.
@@ -238,15 +210,6 @@ impl Trail {
         self.is_full = is_full;
         self.settled = settled;
         Ok(())
-    }
-
-    /// Returns the positions of the calls that were made.
-    pub(crate) fn places(&self, alloc: Global) -> Result<Vec<usize>, AllocError> {
-        let mut places = Vec::new(alloc);
-        for number in 0..self.path.len() {
-            places.push(self.path[number].place)?;
-        }
-        Ok(places)
     }
 
     /// Returns the next calls of clients that may have to precede the call that ends first. Such a

@@ -1,8 +1,7 @@
 -- The first values of keys, line by line.
-use Rattle.std.proofs.Common.{◌≡◌, ℕ, ◌+◌, ◌<◌, ◌≤◌, Bool, true, false, cond, is_some, Some, None, Ok, Err, List, []}
+use Rattle.std.proofs.Common.{◌≡◌, ℕ, ◌+◌, ◌<◌, ◌≤◌, true, false, cond, is_some, Some, None, Ok, Err, List, []}
 use Rattle.std.proofs.Common.{◌∷◌}
 use Rattle.std.proofs.Common.{length, refl, sym, ap, ◌∙◌, inl, inr, arith}
-use Rattle.std.specs.Prelude.{Result}
 use Rattle.vac_lines.specs.Lines.{lines_of, words_of}
 use Rattle.judge_text.specs.Many.{changed}
 use Rattle.judge_text.proofs.OfOne.{named, changed_here, changed_not}
@@ -10,7 +9,7 @@ use Rattle.judge_text.proofs.Cutting.{lines_none}
 use Rattle.judge_kv.specs.declared.starting.StartFault.{StartFault}
 use Rattle.judge_kv.specs.declared.starting.StartFault.TheVariants.{KeyTwice}
 use Rattle.judge_kv.specs.Rules.{Held}
-use Rattle.judge_kv.specs.Starting.{First, FirstFault, value_at_first, words_first, once, line_first, then_firsts}
+use Rattle.judge_kv.specs.Starting.{First, value_at_first, words_first, once, line_first, then_firsts}
 use Rattle.judge_kv.specs.Starting.{lines_firsts, text_firsts, BeginWith, IsStartOf}
 
 -- the first values of the lines so far, and what is left of a text
@@ -19,9 +18,6 @@ pub record HasFirsts (text : List ℕ) (s : List ℕ → Held) (number : ℕ) (r
   pub are : text_firsts text ≡ lines_firsts firsts (number + 1) (lines_of rest)
   pub begin : BeginWith firsts s
   pub fits : number + length rest ≤ length text
-
-pub firsts_none : (text : List ℕ) (s : List ℕ → Held) → ((key : List ℕ) → s key ≡ None) → HasFirsts text s 0 text
-firsts_none text s none = record { firsts = []; are = refl; begin = none; fits = omega arith }
 
 -- one key more begins with its value
 begin_more : (firsts : List First) (s t : List ℕ → Held) (first : First) → BeginWith firsts s →
@@ -60,14 +56,6 @@ first_fault text s number rest line behind fault h cut is =
     after_line text s number rest line behind h cut
     ∙ ap (λ r. then_firsts (number + 1) r
     (λ (x : First). lines_firsts (x ∷ h.firsts) (number + 1 + 1) (lines_of behind))) is
-
-pub firsts_all : (text : List ℕ) (s : List ℕ → Held) (number : ℕ) (rest : List ℕ) → HasFirsts text s number rest →
-    length rest ≡ 0 → IsStartOf text s
-firsts_all text s number rest h none = record {
-  firsts = h.firsts;
-  are = h.are ∙ ap (lines_firsts h.firsts (number + 1)) (lines_none rest none);
-  begin = h.begin;
-}
 
 -- a line whose key has a value already, and one whose key has none
 pub key_twice : (before : List First) (s : List ℕ → Held) (line : List ℕ) (first : First) → BeginWith before s →

@@ -4,7 +4,7 @@ use Rattle.std.specs.Str.{bytes_eq}
 use Rattle.vac_lines.specs.Words.{memory_word_of}
 use Rattle.judge_object.specs.Rules.{Rules}
 use Rattle.judge_kv.specs.Operations.{Does, Get, Put, Delete, CompareAndSet, Append, PutIfAbsent, GetAndSet, Increment, Transact, TransactAndGet, Change, Keep, Become, Asked}
-use Rattle.judge_kv.specs.Replies.{Answered, Done, Truth, Has, Missing, answer_text, value_answer}
+use Rattle.judge_kv.specs.Replies.{Answered, Done, Truth, Has, answer_text, value_answer}
 
 -- what a key has: a value, or none
 abbrev pub Held : Type 0

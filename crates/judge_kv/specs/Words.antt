@@ -2,7 +2,7 @@
 -- append KEY VALUE, put-if-absent KEY VALUE, get-and-set KEY VALUE, increment KEY BY,
 -- txn KEY OLD THEN ELSE, txn-get KEY OLD THEN ELSE. Keys and values are quoted; BY is a number in
 -- quotes; OLD, THEN and ELSE may be - for a missing value, the last two = for what the key has.
-use Rattle.std.specs.Prelude.{◌≡◌, ℕ, true, false, Option, Some, None, List, [], ◌∷◌, codes, if◌then◌else◌}
+use Rattle.std.specs.Prelude.{ℕ, true, false, Option, Some, None, List, [], ◌∷◌, codes, if◌then◌else◌}
 use Rattle.std.specs.Str.{bytes_eq}
 use Rattle.vac_lines.specs.Words.{memory_word_of}
 use Rattle.judge_text.specs.Language.{Language}

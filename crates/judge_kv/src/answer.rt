@@ -1,12 +1,13 @@
 //! The replies of a key-value store.
 
-ghost use Rattle.std.specs.Prelude.{◌≡◌, ◌++◌, OnOk};
+ghost use Rattle.std.specs.Prelude.{◌≡◌, Some};
 ghost use Rattle.judge_kv.specs.Replies.{Done, Truth, Has, answer_text, value_answer};
 ghost use Rattle.judge_kv.specs.Shared.{value_in};
 
 use crate::value::Value;
-use judge_text::print_quoted;
-use std::alloc::AllocError;
+use judge_text::Quoted;
+use std::fmt;
+use std::fmt::{Display, Formatter};
 use std::marker::Model;
 use std::rc::Rc;
 
@@ -74,17 +75,20 @@ impl Answer {
             said: Said::Has(value),
         }
     }
+}
 
-    /// Appends the text.
-    pub fn print(&self, out: &mut Vec<u8>) -> Result<(), AllocError>
-        ensures { OnOk result (out.new.items ≡ out.old.items ++ answer_text self.now) }
-    {
+impl Display for Answer {
+    ghost output = { λ answer. Some (answer_text answer) };
+
+    fn fmt<W: fmt::Write>(&self, f: &mut Formatter<W>) -> fmt::Result {
         match &self.said {
-            Said::Done => out.extend_from_slice(b"ok"),
-            Said::Truth(true) => out.extend_from_slice(b"true"),
-            Said::Truth(false) => out.extend_from_slice(b"false"),
-            Said::Has(value) => print_quoted(value.as_slice(), out),
-            Said::Missing => out.extend_from_slice(b"-"),
+            Said::Done => write!(f, "ok"),
+            Said::Truth(done) => write!(f, "{done}"),
+            Said::Has(value) => {
+                let bytes = value.as_slice();
+                write!(f, "{}", Quoted { bytes })
+            }
+            Said::Missing => write!(f, "-"),
         }
     }
 }

@@ -15,7 +15,7 @@ use judge_text::{Named, Names};
 use std::alloc::{AllocError, Global};
 use std::marker::Model;
 use std::rc::Rc;
-use vac_lines::read_memory_word;
+use vac_lines::{append, read_memory_word};
 
 /// The state of a key. Contracts see the bytes of its value, if it has one.
 #[derive(Drop)]
@@ -281,7 +281,7 @@ impl Object for Cell {
     }
 
     fn print(reply: &Answer, out: &mut Vec<u8>) -> Result<(), AllocError> {
-        reply.print(out)
+        append(reply, out)
     }
 }
 

@@ -28,13 +28,13 @@ pub enum StartFault {
 
 impl StartFault {
     /// The name of the fault.
-    pub fn name(self) -> &'static [u8]
+    pub fn name(self) -> &'static str
         ensures { result.now ≡ spec.fault_name self }
     {
         match self {
-            StartFault::BadStart => b"bad-start",
-            StartFault::MissingValue => b"missing-value",
-            StartFault::KeyTwice => b"key-twice",
+            StartFault::BadStart => "bad-start",
+            StartFault::MissingValue => "missing-value",
+            StartFault::KeyTwice => "key-twice",
         }
     }
 }

@@ -21,6 +21,7 @@ use judge_text::{Named, Names};
 use std::alloc::{AllocError, Global};
 use std::marker::Model;
 use std::rc::Rc;
+use vac_lines::append;
 
 /// The state of a whole store. Contracts see its keys with their values, in the order of the keys'
 /// bytes.
@@ -205,7 +206,7 @@ impl Object for Store {
     }
 
     fn print(reply: &Answer, out: &mut Vec<u8>) -> Result<(), AllocError> {
-        reply.print(out)
+        append(reply, out)
     }
 }
 

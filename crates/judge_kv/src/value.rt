@@ -5,7 +5,7 @@ ghost use Rattle.std.specs.Prelude.{◌≡◌, ◌++◌, true, IfOk, decimal};
 use smallvec::SmallVec;
 use std::alloc::{AllocError, Global};
 use std::marker::Model;
-use vac_lines::append_field;
+use vac_lines::print;
 
 /// A value of a key: bytes, of which up to 16 stand in the value itself.
 #[derive(Drop)]
@@ -55,7 +55,7 @@ impl Value {
         ensures { IfOk result (λ value. value ≡ decimal number) }
     {
         let mut bytes = Vec::new(alloc);
-        append_field(&mut bytes, b"", number)?;
+        print(number, &mut bytes)?;
         Ok(Value::from_bytes(bytes))
     }
 

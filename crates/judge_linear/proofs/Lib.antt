@@ -5,7 +5,6 @@ pub mod Freed
 pub mod PartCalls
 pub mod CutCalls
 pub mod Founds
-pub mod Printing
 pub mod Lawful
 pub mod Written
 pub mod WrongLines

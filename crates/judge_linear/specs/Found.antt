@@ -1,14 +1,13 @@
 -- The result for a history of which only each client's own order is known, and the text of the
 -- result.
 use Rattle.std.specs.Prelude.{◌≡◌, ◌<◌, ◌≤◌, ◌+◌, ◌-◌, ⊤, ℕ, Bool, true, Some, None, All, List, [], ◌∷◌, ◌++◌, map, flat_map, length, get_or, slice_get, codes, decimal, Option, IfSome}
-use Rattle.vac_model.specs.declared.items.Kind.{Kind}
-use Rattle.vac_model.specs.declared.items.Kind.TheVariants.{Car, Flight, Room}
 use Rattle.vac_model.specs.declared.limits.TheConstants.{MOST_BLOCKS}
 use Rattle.vac_model.specs.State.{State, Place, empty_state}
 use Rattle.vac_model.specs.declared.replies.Reply.{Reply}
 use Rattle.vac_lines.specs.Lines.{lines_of}
 use Rattle.vac_lines.specs.Script.{as_line}
-use Rattle.vac_lines.specs.Text.{reply_text}
+use Rattle.vac_model.specs.ReplyText.{reply_text}
+use Rattle.vac_model.specs.TaskText.{kind_word}
 use Rattle.judge_calls.specs.declared.verdict.Verdict.{Verdict}
 use Rattle.judge_calls.specs.Verdict.{verdict_text}
 use Rattle.judge_calls.specs.Call.{Call}
@@ -288,15 +287,9 @@ none_text most stuck =
 abbrev pub customer_text : ℕ → List ℕ
 customer_text id = codes " customer " ++ decimal id
 
--- the word for a kind, between spaces
-abbrev pub kind_text : Kind → List ℕ
-kind_text Car = codes " car "
-kind_text Flight = codes " flight "
-kind_text Room = codes " room "
-
 -- an item of a scope
 abbrev pub item_text : Place → List ℕ
-item_text item = kind_text item.0 ++ decimal item.1
+item_text item = codes " " ++ kind_word item.0 ++ codes " " ++ decimal item.1
 
 -- the customers and items of a scope
 abbrev pub scope_text : List ℕ → List Place → List ℕ

@@ -11,8 +11,8 @@ ghost use Rattle.judge_linear.specs.Reading.{IsHeld, IsLineOf, Took};
 
 use judge_calls::CallLine;
 use judge_object::{Ends, Line};
-use judge_reservations::ValidTask;
 use std::alloc::{AllocError, Global};
+use vac_model::ValidTask;
 
 /// The calls that were read, in the order of their lines, and the end of the last call of each
 /// client.

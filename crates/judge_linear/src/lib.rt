@@ -4,15 +4,18 @@
 
 mod found;
 mod history;
+mod index;
 mod laws;
 mod moments;
 mod order;
 mod ordering;
 mod part;
 mod possible;
+mod proposals;
 mod reading;
 mod relaxed;
 mod settings;
+mod trials;
 
 pub use laws::{
     a_call_out_of_turn_is_left_out, a_completed_call_out_of_turn_means_no_order,

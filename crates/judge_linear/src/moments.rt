@@ -13,11 +13,10 @@ use crate::part::open;
 use crate::possible::possible_states;
 use crate::relaxed::copied_line;
 use judge_object::{Line, NEVER, Watcher, cut_lines};
-use judge_reservations::ValidTask;
 use judge_search::{Calls, Finding, Stuck, find_linearization, stuck_calls};
 use std::alloc::{AllocError, Global};
-use vac_model::Reply;
 use vac_model::limits::MOST_BLOCKS;
+use vac_model::{Reply, ValidTask};
 
 /// Calls as they stood at a moment, which have no order.
 #[derive(Drop)]

@@ -17,9 +17,10 @@ use crate::relaxed::relaxed_calls;
 use crate::settings::Settings;
 use judge_heuristic::find_quickly;
 use judge_object::{Level, Object, Watcher};
-use judge_reservations::{Reservations, ValidTask};
+use judge_reservations::Reservations;
 use judge_search::{Calls, Finding, Found, Point, find_linearization, is_linearization};
 use std::alloc::{AllocError, Global};
+use vac_model::ValidTask;
 use vac_model::limits::MOST_BLOCKS;
 
 /// Returns the proposed positions if they are an order of the calls that is a linearization from a

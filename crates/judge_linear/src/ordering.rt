@@ -17,18 +17,18 @@ ghost use Rattle.judge_linear.specs.Found.{RunsBefore};
 ghost use Rattle.judge_linear.specs.Judged.{IsJudged, IsOrder, HasFoundOrder, IsReadAt};
 ghost use Rattle.judge_linear.specs.Ordering.{FindsText, HasText, HasOrdered, HasStoppedOrdering};
 
-use crate::found::{print_illegal_part, print_no_order, print_order, print_undecided};
+use crate::found::{BlockedCalls, print_order};
 use crate::history::History;
 use crate::order::{Judged, Ordered, judge_lines};
 use crate::reading::{Reading, read_history};
 use crate::settings::Settings;
-use judge_calls::print_verdict;
 use judge_object::Watcher;
-use judge_reservations::{Reservations, ValidTask};
+use judge_reservations::Reservations;
 use judge_search::{Calls, Finding, Found, Point, stuck_calls};
 use std::alloc::{AllocError, Global};
 use std::io::{Read, Write};
-use vac_lines::{StreamFault, write_and_flush};
+use vac_lines::{StreamFault, print, write_and_flush};
+use vac_model::ValidTask;
 use vac_model::limits::MOST_BLOCKS;
 
 /// Largest number of steps of each search, if the command line gives none.
@@ -69,11 +69,15 @@ fn print_whole(
         }
         Finding::NoOrder(most, point) => {
             let stuck = stuck_calls(alloc, calls, point)?;
-            print_no_order(*most, lines, stuck.as_slice(), text)?;
+            let stuck = stuck.as_slice();
+            print(
+                format_args!("illegal order {most}\n{}", BlockedCalls { lines, stuck }),
+                text,
+            )?;
             Ok(Outcome::Illegal)
         }
         Finding::Unknown(most) => {
-            print_undecided(*most, text)?;
+            print(format_args!("undecided {most}\n"), text)?;
             Ok(Outcome::Undecided)
         }
     }
@@ -97,7 +101,7 @@ fn print_finding(
     match &ordered.judged {
         Judged::Whole(found) => print_whole(alloc, &ordered.calls, found, text),
         Judged::Part(part) => {
-            print_illegal_part(part, text)?;
+            print(part, text)?;
             Ok(Outcome::Illegal)
         }
     }
@@ -141,7 +145,7 @@ fn find_text<R: Read, P: Watcher>(
         Reading::Whole(history) => Ok(order_calls(alloc, how, history, watcher)?),
         Reading::Wrong(verdict) => {
             let mut text = Vec::new(alloc);
-            print_verdict(&verdict, &mut text)?;
+            print(verdict, &mut text)?;
             Ok((Outcome::Illegal, text))
         }
     }

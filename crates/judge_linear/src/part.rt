@@ -9,11 +9,12 @@ ghost use Rattle.judge_search.specs.Walk.{IsWhole};
 ghost use Rattle.judge_linear.specs.Judged.{HasNoOrderOf};
 
 use crate::moments::{WrongPart, first_wrong};
-use judge_heuristic::{Names, Proposals};
+use crate::proposals::Proposals;
 use judge_object::Watcher;
-use judge_reservations::{Reservations, Scope, ValidTask, part_of_history, scope_of};
+use judge_reservations::{Names, Reservations, Scope, part_of_history, scope_of};
 use judge_search::Calls;
 use std::alloc::{AllocError, Global};
+use vac_model::ValidTask;
 use vac_model::limits::MOST_BLOCKS;
 
 /// Largest number of proposed scopes whose parts are checked, and of steps of each check.
@@ -108,9 +109,9 @@ pub(crate) fn find_illegal_part<P: Watcher>(
     }
     let few = steps.min(MOST_STEPS);
     let empty = open(alloc, MOST_BLOCKS)?;
-    let mut proposals = Proposals::new(alloc, calls.as_slice())?;
+    let mut proposals = Proposals::new(alloc, calls.as_slice(), empty)?;
     for _ in 0..MOST_CHECKS {
-        let Some(names) = proposals.next_names(alloc, calls.as_slice(), &empty)? else {
+        let Some(names) = proposals.next_names(alloc)? else {
             return Ok(None);
         };
         if let Some(part) = checked_part(alloc, calls, &names, few, watcher)? {

@@ -7,9 +7,10 @@ ghost use Rattle.judge_search.specs.Walk.{IsWhole};
 ghost use Rattle.judge_linear.specs.Possible.{AreSameOnce, AddsOnce, HaveStates};
 
 use crate::part::open;
-use judge_reservations::{Reservations, ValidTask};
+use judge_reservations::Reservations;
 use judge_search::{Calls, states_left};
 use std::alloc::{AllocError, Global};
+use vac_model::ValidTask;
 use vac_model::limits::MOST_BLOCKS;
 
 /// Largest number of points of a search through which possible states are counted. The number of

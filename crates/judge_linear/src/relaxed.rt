@@ -6,10 +6,9 @@ ghost use Rattle.judge_linear.specs.Relaxed.{IsCopy, IsRelaxedLine};
 ghost use Rattle.judge_linear.specs.Relaxed.{AreRelaxedLines, AreRelaxedCalls};
 
 use judge_object::{Level, Line, relaxed_line};
-use judge_reservations::ValidTask;
 use judge_search::Calls;
 use std::alloc::{AllocError, Global};
-use vac_model::Task;
+use vac_model::{Task, ValidTask};
 
 /// Returns a copy of a task.
 fn copied_task(alloc: Global, task: &Task) -> Result<Task, AllocError>

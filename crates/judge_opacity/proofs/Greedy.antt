@@ -1,14 +1,14 @@
 -- A greedy search for the places of attempts is complete: an attempt that is no committed writer, that no other has to
 -- precede and whose reads are right may come at once, and if there is no such attempt, the next writer has to come.
-use Rattle.std.proofs.Common.{◌≡◌, ◌≢◌, ℕ, ◌&&◌, ◌||◌, Bool, true, false, not, cond, List, [], ◌∷◌, ◌++◌, Option, Some}
+use Rattle.std.proofs.Common.{◌≡◌, ◌&&◌, ◌||◌, Bool, true, false, not, cond, List, [], ◌∷◌, ◌++◌, Option, Some}
 use Rattle.std.proofs.Common.{None}
 use Rattle.std.proofs.Common.{refl, sym, ap, ◌∙◌, subst, inl, inr, ◌⊎◌, append_assoc, append-nil, nat_lt}
-use Rattle.std.specs.List.{list_any, AllByRecursion}
+use Rattle.std.specs.List.{list_any}
 use mathlib.Core.List.{reverse_aux}
 use Rattle.judge_object.specs.declared.span.Misplaced.{Misplaced}
 use Rattle.judge_object.specs.declared.span.Misplaced.TheVariants.{Client, Time}
 use Rattle.judge_object.specs.Order.{overlaps, ended_before, breaks_client, breaks_time, misplaced}
-use Rattle.judge_object.proofs.Tests.{both_false, false_both}
+use Rattle.judge_object.proofs.Tests.{both_false}
 use Rattle.judge_object.proofs.Order.{none_found, fails}
 use Rattle.judge_opacity.specs.declared.attempt.Access.{Access}
 use Rattle.judge_opacity.specs.declared.attempt.Access.TheVariants.{Read, Write}

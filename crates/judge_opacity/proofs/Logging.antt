@@ -1,5 +1,5 @@
 -- The attempts that the lines read so far make.
-use Rattle.std.proofs.Common.{◌≡◌, ℕ, ◌+◌, ◌<◌, false, cond, Result, Ok, Err, List, [], ◌∷◌, ◌++◌, length, map, All}
+use Rattle.std.proofs.Common.{◌≡◌, ℕ, ◌+◌, ◌<◌, false, cond, Ok, Err, List, [], ◌∷◌, ◌++◌, length, map}
 use Rattle.std.proofs.Common.{refl, sym, ap, ◌∙◌}
 use Rattle.std.proofs.Common.{subst, arith, append_assoc, append-nil, eqb, ne_eqb}
 use Rattle.std.proofs.lemmas.List.{map-append, length-map}
@@ -8,7 +8,7 @@ use Rattle.vac_lines.specs.declared.fault.LineFault.{LineFault}
 use Rattle.vac_lines.specs.Lines.{lines_of}
 use Rattle.vac_lines.proofs.LineCuts.{HasNoEnd, lines_cut, lines_last}
 use Rattle.judge_opacity.specs.declared.logged.Logged.{Logged}
-use Rattle.judge_opacity.specs.Attempt.{Attempt, line_attempt}
+use Rattle.judge_opacity.specs.Attempt.{line_attempt}
 use Rattle.judge_opacity.specs.Parts.{AllAmong}
 use Rattle.judge_opacity.specs.Laws.{ListsAttempts}
 use Rattle.judge_opacity.specs.Logs.{logged_attempt, attempts_in, AreAmong, HasFirstFault}

@@ -1,16 +1,15 @@
 -- Laws on places and on the verdict on them.
-use Rattle.std.proofs.Common.{◌≡◌, ℕ, Bool, true, false, cond, List, [], ◌∷◌, ◌++◌, map, Result, Ok, Err, IsPermutation}
+use Rattle.std.proofs.Common.{◌≡◌, Bool, true, false, cond, List, [], ◌∷◌, ◌++◌, map, Result, Ok, Err, IsPermutation}
 use Rattle.std.proofs.Common.{refl, sym}
 use Rattle.std.proofs.Common.{ap, ◌∙◌, subst}
 use Rattle.std.proofs.lemmas.List.Sorted.{IsPermutation-refl, IsPermutation-cons, IsPermutation-trans}
 use Rattle.std.proofs.lemmas.List.Sorted.{IsPermutation-middle}
 use Rattle.vac_lines.specs.declared.fault.LineFault.{LineFault}
-use Rattle.judge_opacity.specs.declared.placed.Placed.{Placed}
 use Rattle.judge_opacity.specs.declared.placed.Placed.TheVariants as placed
 use Rattle.judge_opacity.specs.Attempt.{Attempt}
-use Rattle.judge_opacity.specs.Placing.{is_writer, NoWriter, IsPlacement, IsPlaceable, IsPlaceableText, writers_in}
+use Rattle.judge_opacity.specs.Placing.{is_writer, NoWriter, IsPlacement, IsPlaceable, writers_in}
 use Rattle.judge_opacity.specs.Placing.{PlacementsKeepAttempts}
-use Rattle.judge_opacity.specs.Placed.{IsPlacedText, is_placed, PlacedIsOpacity}
+use Rattle.judge_opacity.specs.Placed.{PlacedIsOpacity}
 
 -- ---- places only move attempts
 

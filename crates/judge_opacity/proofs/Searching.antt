@@ -2,7 +2,7 @@
 use Rattle.std.proofs.Common.{◌≡◌, ℕ, suc, zero, ◌+◌, ◌<◌, ◌≤◌, ◌==◌, ◌&&◌, Bool, true, false, not, cond, List, [], ◌∷◌}
 use Rattle.std.proofs.Common.{◌++◌}
 use Rattle.std.proofs.Common.{length, map, take, drop, get_or, remove, Option, Some, None, is_none, is_some, All}
-use Rattle.std.proofs.Common.{reverse, refl, sym, ap}
+use Rattle.std.proofs.Common.{refl, sym, ap}
 use Rattle.std.proofs.Common.{Result, Ok, Err, OnOk}
 use Rattle.std.proofs.Common.{◌∙◌, subst, arith}
 use Rattle.std.specs.List.{count_by}
@@ -11,7 +11,6 @@ use Rattle.std.proofs.lemmas.List.{map-append, reverse-reverse}
 use Rattle.std.proofs.lemmas.List.Elements.{All-append, All-take, All-drop}
 use Rattle.std.proofs.lemmas.List.Sums.{sum_by-cons}
 use Rattle.std.proofs.lemmas.Bool.Decides.{nat_tests}
-use Rattle.judge_object.specs.declared.span.Span.{Span}
 use Rattle.judge_object.specs.declared.span.Misplaced.{Misplaced}
 use Rattle.judge_object.specs.Keeping.{Keeps}
 use Rattle.judge_object.specs.Order.{itself, misplaced}
@@ -27,7 +26,7 @@ use Rattle.judge_opacity.specs.Words.{left_by, wrong_read}
 use Rattle.judge_opacity.specs.Verdict.{place_first, violation_of, counts_of}
 use Rattle.judge_opacity.specs.Judging.{FollowsAttempts}
 use Rattle.judge_opacity.specs.Placing.{is_writer, NoWriter, IsPlacement, IsPlaceable, may_follow, Goes, Completes}
-use Rattle.judge_opacity.specs.Logs.{logged_attempt, attempts_in, spans_follow, blocks, blocked_by, own_block, is_free}
+use Rattle.judge_opacity.specs.Logs.{logged_attempt, attempts_in, blocks, blocked_by, own_block, is_free}
 use Rattle.judge_opacity.specs.Logs.{IsFreeAt, IsFirstWriter, IsSameJudge, MayComeNext, IsNextPlaced, IsPlacedAs}
 use Rattle.judge_opacity.proofs.Judged.{by_place, by_reads}
 use Rattle.judge_opacity.proofs.Greedy.{AllFollow, NoFree, heads, none_split, free_next, writer_next, stuck_none}

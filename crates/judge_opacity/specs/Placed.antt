@@ -10,7 +10,7 @@ use Rattle.judge_opacity.specs.declared.placed.Placed.TheVariants as placed
 use Rattle.judge_opacity.specs.declared.finding.Counts.{Counts}
 use Rattle.judge_opacity.specs.declared.finding.Finding.TheVariants.{Opaque, Fault}
 use Rattle.judge_opacity.specs.Attempt.{Attempt}
-use Rattle.judge_opacity.specs.Verdict.{finding_text}
+use Rattle.judge_opacity.specs.Verdict.{verdict_text}
 use Rattle.judge_opacity.specs.Laws.{ListsAttempts}
 use Rattle.judge_opacity.specs.Placing.{IsPlaceable, IsPlaceableText}
 use Rattle.judge_opacity.specs.Logs.{HasFirstFault, IsPlacedAs}
@@ -33,11 +33,15 @@ IsPlacedText words bytes (placed.Opaque counts) = HasPlaces words bytes counts
 IsPlacedText words bytes (placed.Fault line fault) = HasFirstFault words bytes line fault
 IsPlacedText words bytes placed.NoPlaces = HasNoPlaces words bytes
 
+-- the text of a verdict, without a line end
+abbrev pub placed_verdict_text : Placed → List ℕ
+placed_verdict_text (placed.Opaque counts) = verdict_text (Opaque counts)
+placed_verdict_text (placed.Fault line fault) = verdict_text (Fault line fault)
+placed_verdict_text placed.NoPlaces = codes "illegal places"
+
 -- the output for a verdict
 abbrev pub placed_text : Placed → List ℕ
-placed_text (placed.Opaque counts) = finding_text (Opaque counts)
-placed_text (placed.Fault line fault) = finding_text (Fault line fault)
-placed_text placed.NoPlaces = as_line (codes "illegal places")
+placed_text verdict = as_line (placed_verdict_text verdict)
 
 -- true if the verdict is that the attempts are opaque in some order
 abbrev pub is_placed : Placed → Bool

@@ -1,9 +1,9 @@
 -- The verdict of the judge on a text of attempts, as a function of all its bytes. Earlier attempts
 -- are listed from the newest on.
-use Rattle.std.specs.Prelude.{ℕ, ◌+◌, Bool, true, false, Option, Some, None, Result, Ok, Err, List, [], ◌∷◌, ◌++◌, map, length, codes, if◌then◌else◌}
+use Rattle.std.specs.Prelude.{ℕ, ◌+◌, Bool, true, false, Option, Some, None, Result, Ok, Err, List, [], ◌∷◌, ◌++◌, map, length, codes, decimal, if◌then◌else◌}
 use Rattle.vac_lines.specs.declared.fault.LineFault.{LineFault}
 use Rattle.vac_lines.specs.Lines.{lines_of}
-use Rattle.vac_lines.specs.Text.{fault_text, field_text}
+use Rattle.vac_lines.specs.Text.{fault_text}
 use Rattle.vac_lines.specs.Script.{as_line}
 use Rattle.judge_object.specs.declared.span.Misplaced.{Misplaced}
 use Rattle.judge_object.specs.declared.span.Misplaced.TheVariants.{Client, Time}
@@ -64,27 +64,31 @@ is_opaque (Opaque counts) = true
 is_opaque (Fault line fault) = false
 is_opaque (Illegal line violation) = false
 
--- the text of the counts of opaque attempts
+-- the text of counts
 abbrev pub attempts_counts_text : Counts → List ℕ
 attempts_counts_text counts =
-    field_text (codes "opaque attempts=") counts.attempts
-    ++ field_text (codes " committed=") counts.committed
-    ++ field_text (codes " clients=") counts.clients
+    codes "attempts=" ++ decimal counts.attempts
+    ++ codes " committed=" ++ decimal counts.committed
+    ++ codes " clients=" ++ decimal counts.clients
 
 -- the text of a wrong read: the line, the word and the expected value
 abbrev pub read_text : ℕ → ℕ → ℕ → List ℕ
 read_text line word expected =
-    field_text (codes "illegal read ") line ++ field_text (codes " ") word
-    ++ field_text (codes " ") expected
+    codes "illegal read " ++ decimal line ++ codes " " ++ decimal word
+    ++ codes " " ++ decimal expected
 
 -- the text of a wrong attempt
 abbrev pub violation_text : AttemptViolation → ℕ → List ℕ
-violation_text (violation.Place Client) line = field_text (codes "illegal client ") line
-violation_text (violation.Place Time) line = field_text (codes "illegal time ") line
+violation_text (violation.Place Client) line = codes "illegal client " ++ decimal line
+violation_text (violation.Place Time) line = codes "illegal time " ++ decimal line
 violation_text (violation.Read word expected) line = read_text line word expected
+
+-- the text of a verdict, without a line end
+abbrev pub verdict_text : Finding → List ℕ
+verdict_text (Opaque counts) = codes "opaque " ++ attempts_counts_text counts
+verdict_text (Fault line fault) = fault_text fault ++ codes " " ++ decimal line
+verdict_text (Illegal line violation) = violation_text violation line
 
 -- the output for a verdict
 abbrev pub finding_text : Finding → List ℕ
-finding_text (Opaque counts) = as_line (attempts_counts_text counts)
-finding_text (Fault line fault) = as_line (fault_text fault ++ field_text (codes " ") line)
-finding_text (Illegal line violation) = as_line (violation_text violation line)
+finding_text finding = as_line (verdict_text finding)

@@ -1,13 +1,12 @@
 //! The verdict on a text of attempts, and its text.
 
-ghost use Rattle.std.specs.Prelude.{◌≡◌, ◌++◌, OnOk, OnErr};
-ghost use Rattle.vac_lines.specs.Text.{Extends};
-ghost use Rattle.judge_opacity.specs.Verdict.{read_text, finding_text};
-ghost use Rattle.judge_opacity.specs.Verdict.{is_opaque};
+ghost use Rattle.std.specs.Prelude.{◌≡◌, Some};
+ghost use Rattle.judge_opacity.specs.Verdict.{is_opaque, attempts_counts_text, verdict_text};
 
 use judge_object::Misplaced;
-use std::alloc::AllocError;
-use vac_lines::{LineFault, append_field, keep_whole, print_fault};
+use std::fmt;
+use std::fmt::{Display, Formatter};
+use vac_lines::LineFault;
 
 /// The fault of an attempt, after the attempts that come before it.
 #[derive(Clone, Copy, Debug, PartialEq, Eq)]
@@ -48,69 +47,35 @@ pub enum Finding {
     },
 }
 
-/// Appends the counts of opaque attempts.
-fn append_counts(out: &mut Vec<u8>, counts: &Counts) -> Result<(), AllocError>
-    ensures ok { OnOk result
-        (out.new.items ≡ out.old.items ++ finding_text (Finding.Opaque counts.now)) }
-    ensures err { OnErr result (Extends out.old.items out.new.items) }
-{
-    append_field(out, b"opaque attempts=", counts.attempts)?;
-    append_field(out, b" committed=", counts.committed)?;
-    append_field(out, b" clients=", counts.clients)?;
-    out.extend_from_slice(b"\n")
-}
+impl Display for Counts {
+    ghost output = { λ counts. Some (attempts_counts_text counts) };
 
-/// Appends the fault of a line that is no attempt.
-fn append_fault(out: &mut Vec<u8>, fault: LineFault, line: u64) -> Result<(), AllocError>
-    ensures ok { OnOk result
-        (out.new.items ≡ out.old.items ++ finding_text (Finding.Fault line fault)) }
-    ensures err { OnErr result (Extends out.old.items out.new.items) }
-{
-    print_fault(fault, out)?;
-    append_field(out, b" ", line)?;
-    out.extend_from_slice(b"\n")
-}
-
-/// Appends a wrong read: its line, its word and the expected value.
-fn append_read(out: &mut Vec<u8>, line: u64, word: u32, expected: u64) -> Result<(), AllocError>
-    ensures ok { OnOk result (out.new.items ≡ out.old.items ++ read_text line word expected) }
-    ensures err { OnErr result (Extends out.old.items out.new.items) }
-{
-    append_field(out, b"illegal read ", line)?;
-    append_field(out, b" ", u64::from(word))?;
-    append_field(out, b" ", expected)
-}
-
-/// Appends the fault of the attempt of a line.
-fn append_violation(
-    out: &mut Vec<u8>,
-    violation: &AttemptViolation,
-    line: u64,
-) -> Result<(), AllocError>
-    ensures ok { OnOk result
-        (out.new.items ≡ out.old.items ++ finding_text (Finding.Illegal line violation.now)) }
-    ensures err { OnErr result (Extends out.old.items out.new.items) }
-{
-    match violation {
-        AttemptViolation::Place(Misplaced::Client) => append_field(out, b"illegal client ", line)?,
-        AttemptViolation::Place(Misplaced::Time) => append_field(out, b"illegal time ", line)?,
-        AttemptViolation::Read { word, expected } => append_read(out, line, *word, *expected)?,
+    fn fmt<W: fmt::Write>(&self, f: &mut Formatter<W>) -> fmt::Result {
+        let (attempts, committed, clients) = (self.attempts, self.committed, self.clients);
+        write!(
+            f,
+            "attempts={attempts} committed={committed} clients={clients}"
+        )
     }
-    out.extend_from_slice(b"\n")
 }
 
-/// Appends the text of a verdict, which is one line. If memory is refused, nothing is appended.
-pub fn print_finding(finding: &Finding, out: &mut Vec<u8>) -> Result<(), AllocError>
-    ensures ok { OnOk result (out.new.items ≡ out.old.items ++ finding_text finding.now) }
-    ensures err { OnErr result (out.new.items ≡ out.old.items) }
-{
-    let start = out.len();
-    let printed = match finding {
-        Finding::Opaque(counts) => append_counts(out, counts),
-        Finding::Fault { line, fault } => append_fault(out, *fault, *line),
-        Finding::Illegal { line, violation } => append_violation(out, violation, *line),
-    };
-    keep_whole(out, start, printed)
+/// The verdict, without a line end.
+impl Display for Finding {
+    ghost output = { λ finding. Some (verdict_text finding) };
+
+    fn fmt<W: fmt::Write>(&self, f: &mut Formatter<W>) -> fmt::Result {
+        match *self {
+            Finding::Opaque(counts) => write!(f, "opaque {counts}"),
+            Finding::Fault { line, fault } => write!(f, "fault {} {line}", fault.name()),
+            Finding::Illegal { line, violation } => match violation {
+                AttemptViolation::Place(Misplaced::Client) => write!(f, "illegal client {line}"),
+                AttemptViolation::Place(Misplaced::Time) => write!(f, "illegal time {line}"),
+                AttemptViolation::Read { word, expected } => {
+                    write!(f, "illegal read {line} {word} {expected}")
+                }
+            },
+        }
+    }
 }
 
 /// Returns whether the verdict is that the attempts are opaque.

@@ -20,7 +20,7 @@ mod reading;
 mod words;
 
 pub use attempt::{ATTEMPT_BYTES, Access};
-pub use finding::{AttemptViolation, Counts, Finding, print_finding};
+pub use finding::{AttemptViolation, Counts, Finding};
 pub use laws::{
     a_fault_names_the_first_line_that_is_no_attempt, a_finding_names_the_first_wrong_attempt,
     a_finding_sees_opacity, a_placed_verdict_sees_opacity, opaque_attempts_are_counted,

@@ -1,17 +1,19 @@
 //! The verdict on attempts of which only the committed writers have places, and its text.
 
-ghost use Rattle.std.specs.Prelude.{◌≡◌, ◌≢◌, ◌++◌, IfOk, OnOk, IfErr, OnErr};
+ghost use Rattle.std.specs.Prelude.{◌≡◌, ◌≢◌, Some, IfOk, IfErr};
 ghost use Rattle.vac_lines.specs.declared.stream_fault.StreamFault.TheVariants.{Write};
 ghost use Rattle.judge_opacity.specs.Placed as spec;
-ghost use Rattle.judge_opacity.specs.Placed.{IsPlacedText, placed_text, IsReadWhole, HasPlaced, HasStoppedPlacing};
+ghost use Rattle.judge_opacity.specs.Placed.{IsPlacedText, IsReadWhole, HasPlaced, HasStoppedPlacing};
 
-use crate::finding::{Counts, Finding, print_finding};
+use crate::finding::{Counts, Finding};
 use crate::judge::Judge;
 use crate::log_reading::{Log, read_log};
 use crate::placing::place_all;
-use std::alloc::{AllocError, Global};
+use std::alloc::Global;
+use std::fmt;
+use std::fmt::{Display, Formatter};
 use std::io::{ErrorKind, Read, Write};
-use vac_lines::{LineFault, StreamFault, write_and_flush};
+use vac_lines::{LineFault, StreamFault, print, write_and_flush};
 
 /// The verdict on a text of attempts of which only the committed writers have places. Lines are
 /// numbered from 1.
@@ -25,6 +27,18 @@ pub(crate) enum Placed {
     NoPlaces,
 }
 
+impl Display for Placed {
+    ghost output = { λ placed. Some (spec.placed_verdict_text placed) };
+
+    fn fmt<W: fmt::Write>(&self, f: &mut Formatter<W>) -> fmt::Result {
+        match *self {
+            Placed::Opaque(counts) => write!(f, "{}", Finding::Opaque(counts)),
+            Placed::Fault { line, fault } => write!(f, "{}", Finding::Fault { line, fault }),
+            Placed::NoPlaces => write!(f, "illegal places"),
+        }
+    }
+}
+
 /// Judges a text of attempts at `words` words.
 fn find_places(alloc: Global, words: u32, text: &[u8]) -> Result<Placed, StreamFault>
     ensures placed { IfOk result (λ placed. IsPlacedText words text.now placed) }
@@ -36,18 +50,6 @@ fn find_places(alloc: Global, words: u32, text: &[u8]) -> Result<Placed, StreamF
             Some(counts) => Ok(Placed::Opaque(counts)),
             None => Ok(Placed::NoPlaces),
         },
-    }
-}
-
-/// Appends the text of a verdict, which is one line. If memory is refused, nothing is appended.
-fn print_placed(placed: &Placed, out: &mut Vec<u8>) -> Result<(), AllocError>
-    ensures ok { OnOk result (out.new.items ≡ out.old.items ++ placed_text placed.now) }
-    ensures err { OnErr result (out.new.items ≡ out.old.items) }
-{
-    match *placed {
-        Placed::Opaque(counts) => print_finding(&Finding::Opaque(counts), out),
-        Placed::Fault { line, fault } => print_finding(&Finding::Fault { line, fault }, out),
-        Placed::NoPlaces => out.extend_from_slice(b"illegal places\n"),
     }
 }
 
@@ -101,7 +103,7 @@ pub fn place_attempts<R: Read, W: Write>(
     let bytes = read_all(alloc, input)?;
     let placed = find_places(alloc, words, bytes.as_slice())?;
     let mut text = Vec::new(alloc);
-    print_placed(&placed, &mut text)?;
+    print(format_args!("{placed}\n"), &mut text)?;
     write_and_flush(output, text.as_slice())?;
     Ok(is_placed(&placed))
 }

@@ -5,11 +5,11 @@ ghost use Rattle.vac_lines.specs.declared.stream_fault.StreamFault.TheVariants.{
 ghost use Rattle.judge_opacity.specs.Reading.{HasFinding, HasJudgedAttempts, HasStoppedOnAttempts};
 
 use crate::attempt::ATTEMPT_BYTES;
-use crate::finding::{Finding, is_opaque, print_finding};
+use crate::finding::{Finding, is_opaque};
 use crate::judge::Judge;
 use std::alloc::{AllocError, Global};
 use std::io::{Read, Write};
-use vac_lines::{Next, Sink, StreamFault, read_lines, write_and_flush};
+use vac_lines::{Next, Sink, StreamFault, print, read_lines, write_and_flush};
 
 /// A text of attempts that is being read.
 #[derive(Drop)]
@@ -95,7 +95,7 @@ pub fn judge_attempts<R: Read, W: Write>(
 {
     let finding = find_in(alloc, words, input)?;
     let mut text = Vec::new(alloc);
-    print_finding(&finding, &mut text)?;
+    print(format_args!("{finding}\n"), &mut text)?;
     write_and_flush(output, text.as_slice())?;
     Ok(is_opaque(&finding))
 }

@@ -1,4 +1,3 @@
-pub mod Texts
 pub mod Named
 pub mod Histories
 pub mod Without

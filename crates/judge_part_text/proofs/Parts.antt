@@ -1,20 +1,16 @@
 -- The text for the calls of a history.
-use Rattle.std.proofs.Common.{◌≡◌, ◌++◌, ◌∙◌, ℕ, Bool, true, false, List, [], ap, subst, inl, inr}
+use Rattle.std.proofs.Common.{◌≡◌, ◌++◌, ◌∙◌, ℕ, Bool, true, false, List, [], ap, subst, inl}
 use Rattle.vac_model.specs.declared.tasks.Task.{Task}
 use Rattle.vac_model.specs.State.{Place}
 use Rattle.judge_object.specs.declared.line.Line.{Line}
-use Rattle.judge_calls.specs.declared.fault.CallFault.{CallFault}
-use Rattle.judge_calls.specs.declared.verdict.Verdict.TheVariants.{Fault}
 use Rattle.judge_calls.specs.Call.{Call}
 use Rattle.judge_calls.specs.Laws.{Lists}
-use Rattle.judge_calls.specs.Verdict.{verdict_text}
 use Rattle.judge_calls.specs.CallText.{history_text}
 use Rattle.judge_reservations.specs.declared.scope.Scope.{Scope}
 use Rattle.judge_reservations.specs.Histories.{part_of_history}
 use Rattle.judge_reservations.specs.Largest.{IsScopeOf, HasAllClosed, HasAllWhole, HasNoScope}
 use Rattle.judge_reservations.specs.Lines.{calls_of}
 use Rattle.judge_part_text.specs.Parting.{IsPartOfCalls, IsTextOfCalls, IsTextFor}
-use Rattle.judge_part_text.specs.Reading.{IsFirstDamaged}
 
 -- what holds of names, and of slices of them
 same_names : (P : List ℕ → List Place → Type 0) (customers cs : List ℕ) (items places : List Place) → cs ≡ customers →
@@ -48,14 +44,3 @@ whole_text customers items bytes calls true text listed h =
     record { calls = calls; listed = listed; text_is = h }
 whole_text customers items bytes calls false text listed h =
     inl (record { calls = calls; listed = listed; text_is = h })
-
--- the text for a history with a line that is no call
-pub damage_text : (customers : List ℕ) (items : List Place) (bytes : List ℕ) (line : ℕ) (fault : CallFault)
-    (before text : List ℕ) → IsFirstDamaged bytes line fault → before ≡ [] →
-    text ≡ before ++ verdict_text (Fault line fault) → IsTextFor customers items bytes false text
-damage_text customers items bytes line fault before text first none written = inr (record {
-  line = line;
-  fault = fault;
-  first = first;
-  text_is = written ∙ ap (λ t. t ++ verdict_text (Fault line fault)) none;
-})

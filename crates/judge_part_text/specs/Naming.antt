@@ -1,11 +1,10 @@
 -- The customers and items that words name.
 use Rattle.std.specs.Prelude.{ℕ, ◌&&◌, ◌||◌, Bool, Option, Some, None, List, [], ◌∷◌, length, nat_le, if◌then◌else◌}
-use Rattle.std.specs.Option.{option_map}
 use Rattle.vac_model.specs.declared.items.Kind.{Kind}
 use Rattle.vac_model.specs.declared.limits.TheConstants.{MOST_ID}
 use Rattle.vac_model.specs.State.{Place}
 use Rattle.vac_lines.specs.Words as words
-use Rattle.judge_heuristic.specs.declared.proposals.Names.{Names}
+use Rattle.judge_reservations.specs.declared.scope.Names.{Names}
 use Rattle.judge_part_text.specs.declared.naming.TheConstants.{MOST_NAMES, ID_DIGITS}
 
 -- some customers and some items

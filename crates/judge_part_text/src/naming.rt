@@ -4,7 +4,7 @@ ghost use Rattle.std.specs.Prelude.{◌≡◌, IfOk, map};
 ghost use Rattle.std.specs.Option.{option_map};
 ghost use Rattle.judge_part_text.specs.Naming as spec;
 
-use judge_heuristic::Names;
+use judge_reservations::Names;
 use std::alloc::{AllocError, Global};
 use vac_lines::read_memory_word;
 use vac_model::Kind;

@@ -1,23 +1,23 @@
 //! Finding the part of a history, and writing its text.
 
-ghost use Rattle.std.specs.Prelude.{◌≡◌, ◌++◌, not, IfOk, IfErr, OnOk};
+ghost use Rattle.std.specs.Prelude.{◌≡◌, not, IfOk, IfErr};
 ghost use Rattle.std.specs.List.{position};
 ghost use Rattle.judge_reservations.specs.Largest.{HasNoScope};
 ghost use Rattle.judge_reservations.specs.Lines as spec;
 ghost use Rattle.judge_part_text.specs.Naming as naming;
-ghost use Rattle.judge_part_text.specs.Parting.{IsOpen, IsFirstWithout, no_part_text};
+ghost use Rattle.judge_part_text.specs.Parting.{IsOpen, IsFirstWithout};
 ghost use Rattle.judge_part_text.specs.Parting.{IsTextOfCalls, IsTextFor, HasParted};
 ghost use Rattle.judge_part_text.specs.Parting.{HasStoppedParting};
 
 use crate::printing::print_calls;
 use crate::reading::{Reading, read_history};
-use judge_calls::{Verdict, print_verdict, read_all};
-use judge_heuristic::Names;
+use judge_calls::{Verdict, read_all};
 use judge_object::{Line, NEVER};
-use judge_reservations::{Scope, ValidTask, fits, part_of_history, scope_of};
+use judge_reservations::{Names, Scope, fits, part_of_history, scope_of};
 use std::alloc::{AllocError, Global};
 use std::io::{Read, Write};
-use vac_lines::{StreamFault, append_field, write_and_flush};
+use vac_lines::{StreamFault, print, write_and_flush};
+use vac_model::ValidTask;
 
 /// Returns the scope of some names on which no item is closed and no customer is whole.
 pub(crate) fn open_scope(alloc: Global, names: &Names) -> Result<Scope, AllocError>
@@ -65,14 +65,6 @@ fn line_without(alloc: Global, names: &Names, lines: &[Line<ValidTask>]) -> Resu
     }
 }
 
-/// Appends the line that names the call without a part.
-pub(crate) fn print_no_part(line: u64, out: &mut Vec<u8>) -> Result<(), AllocError>
-    ensures { OnOk result (out.new.items ≡ out.old.items ++ no_part_text line) }
-{
-    append_field(out, b"fault no-part ", line)?;
-    out.extend_from_slice(b"\n")
-}
-
 /// Returns the text for the calls of a history, and whether it is the text of their part.
 fn text_of_calls(
     alloc: Global,
@@ -92,7 +84,8 @@ fn text_of_calls(
             Ok((true, text))
         }
         None => {
-            print_no_part(line_without(alloc, names, lines)?, &mut text)?;
+            let line = line_without(alloc, names, lines)?;
+            print(format_args!("fault no-part {line}\n"), &mut text)?;
             Ok((false, text))
         }
     }
@@ -108,7 +101,7 @@ fn find_text(alloc: Global, names: &Names, bytes: &[u8]) -> Result<(bool, Vec<u8
         Reading::Whole(lines) => text_of_calls(alloc, names, lines.as_slice()),
         Reading::Damaged(line, fault) => {
             let mut text = Vec::new(alloc);
-            print_verdict(&Verdict::Fault { line, fault }, &mut text)?;
+            print(Verdict::Fault { line, fault }, &mut text)?;
             Ok((false, text))
         }
     }

@@ -11,9 +11,9 @@ ghost use Rattle.judge_part_text.specs.Reading.{IsReadLine, IsReadingOf};
 
 use judge_calls::{CallFault, CallLine, read_call};
 use judge_object::Line;
-use judge_reservations::ValidTask;
 use std::alloc::{AllocError, Global};
 use vac_lines::{LineFault, cut_at};
+use vac_model::ValidTask;
 
 /// A text that was read as a history.
 #[derive(Drop)]

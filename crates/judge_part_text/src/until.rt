@@ -1,6 +1,6 @@
 //! Writing the part of a history as it stood at the end of a call.
 
-ghost use Rattle.std.specs.Prelude.{◌≡◌, ◌<◌, ◌++◌, not, is_some, IfOk, IfErr, IfSome, MatchOption, OnOk};
+ghost use Rattle.std.specs.Prelude.{◌≡◌, ◌<◌, not, is_some, IfOk, IfErr, IfSome, MatchOption};
 ghost use Rattle.std.specs.List.{position};
 ghost use Rattle.judge_object.specs.declared.span.TheConstants.{NEVER};
 ghost use Rattle.judge_object.specs.Cut.{cut_call};
@@ -8,20 +8,20 @@ ghost use Rattle.judge_reservations.specs.Largest.{HasNoScope};
 ghost use Rattle.judge_reservations.specs.Lines as spec;
 ghost use Rattle.judge_part_text.specs.Naming as naming;
 ghost use Rattle.judge_part_text.specs.Parting.{IsPartOfCalls};
-ghost use Rattle.judge_part_text.specs.Until.{end_at, had_part, no_end_text, IsTextThen};
+ghost use Rattle.judge_part_text.specs.Until.{end_at, had_part, IsTextThen};
 ghost use Rattle.judge_part_text.specs.Until.{IsTextUntil, IsCutTextFor};
 ghost use Rattle.judge_part_text.specs.Until.{HasPartedUntil, HasStoppedPartingUntil};
 
-use crate::parting::{has_part, open_scope, print_no_part};
+use crate::parting::{has_part, open_scope};
 use crate::printing::print_calls;
 use crate::reading::{Reading, read_history};
-use judge_calls::{Verdict, print_verdict, read_all};
-use judge_heuristic::Names;
+use judge_calls::{Verdict, read_all};
 use judge_object::{Line, NEVER, cut_lines};
-use judge_reservations::{Scope, ValidTask, part_of_history, scope_of};
+use judge_reservations::{Names, Scope, part_of_history, scope_of};
 use std::alloc::{AllocError, Global};
 use std::io::{Read, Write};
-use vac_lines::{StreamFault, append_field, write_and_flush};
+use vac_lines::{StreamFault, print, write_and_flush};
+use vac_model::ValidTask;
 
 /// Returns END of the call of the line with this number, counted from 1, if there is such a line
 /// and its call is completed.
@@ -89,14 +89,6 @@ fn text_of_part(
     Ok(Some(text))
 }
 
-/// Appends the line that names the line without a completed call.
-fn print_no_end(line: u64, out: &mut Vec<u8>) -> Result<(), AllocError>
-    ensures { OnOk result (out.new.items ≡ out.old.items ++ no_end_text line) }
-{
-    append_field(out, b"fault no-end ", line)?;
-    out.extend_from_slice(b"\n")
-}
-
 /// Returns the text for the calls of these lines as they stood at a moment, and whether it is the
 /// text of their part.
 fn text_then(
@@ -116,7 +108,10 @@ fn text_then(
     }
     let mut text = Vec::new(alloc);
     match first {
-        Some(place) => print_no_part(place as u64 + 1, &mut text)?,
+        Some(place) => {
+            let line = place as u64 + 1;
+            print(format_args!("fault no-part {line}\n"), &mut text)?;
+        }
         None => unreachable!(),
     }
     Ok((false, text))
@@ -137,7 +132,7 @@ fn text_until(
         Some(moment) => text_then(alloc, names, moment, lines),
         None => {
             let mut text = Vec::new(alloc);
-            print_no_end(line, &mut text)?;
+            print(format_args!("fault no-end {line}\n"), &mut text)?;
             Ok((false, text))
         }
     }
@@ -156,15 +151,9 @@ fn find_text(
 {
     match read_history(alloc, bytes)? {
         Reading::Whole(lines) => text_until(alloc, names, line, lines),
-        Reading::Damaged(number, fault) => {
+        Reading::Damaged(line, fault) => {
             let mut text = Vec::new(alloc);
-            print_verdict(
-                &Verdict::Fault {
-                    line: number,
-                    fault,
-                },
-                &mut text,
-            )?;
+            print(Verdict::Fault { line, fault }, &mut text)?;
             Ok((false, text))
         }
     }

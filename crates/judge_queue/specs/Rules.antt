@@ -1,5 +1,5 @@
 -- The rules of a bounded queue.
-use Rattle.std.specs.Prelude.{ℕ, Bool, true, false, List, [], ◌∷◌, ◌++◌, length, nat_lt, codes, decimal, if◌then◌else◌}
+use Rattle.std.specs.Prelude.{ℕ, true, false, List, [], ◌∷◌, ◌++◌, length, nat_lt, codes, decimal, if◌then◌else◌}
 use Rattle.judge_object.specs.Rules.{Rules}
 use Rattle.judge_queue.specs.declared.op.Op.{Op}
 use Rattle.judge_queue.specs.declared.op.Op.TheVariants.{Enqueue, Dequeue}

@@ -1,5 +1,5 @@
 -- Operations and replies as words of a line: enqueue NUMBER, dequeue.
-use Rattle.std.specs.Prelude.{ℕ, Bool, true, false, Option, Some, None, List, [], ◌∷◌, codes, if◌then◌else◌}
+use Rattle.std.specs.Prelude.{ℕ, true, false, Option, Some, None, List, [], ◌∷◌, codes, if◌then◌else◌}
 use Rattle.std.specs.Str.{bytes_eq}
 use Rattle.vac_lines.specs.Words.{memory_word_of}
 use Rattle.judge_text.specs.Language.{Language}

@@ -1,5 +1,11 @@
 //! Operations and replies.
 
+ghost use Rattle.std.specs.Prelude.{Some};
+ghost use Rattle.judge_queue.specs.Rules.{reply_text};
+
+use std::fmt;
+use std::fmt::{Display, Formatter};
+
 /// An operation of a bounded queue.
 #[derive(Drop)]
 pub enum Op {
@@ -18,4 +24,16 @@ pub enum Reply {
     Taken(u64),
     /// There was no number.
     Empty,
+}
+
+impl Display for Reply {
+    ghost output = { λ reply. Some (reply_text reply) };
+
+    fn fmt<W: fmt::Write>(&self, f: &mut Formatter<W>) -> fmt::Result {
+        match self {
+            Reply::Put(done) => write!(f, "{done}"),
+            Reply::Taken(number) => write!(f, "{number}"),
+            Reply::Empty => write!(f, "-"),
+        }
+    }
 }

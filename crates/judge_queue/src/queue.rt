@@ -1,14 +1,14 @@
 //! The states of the object.
 
-ghost use Rattle.std.specs.Prelude.{◌≡◌, ◌++◌, OnOk, IfOk, [], true};
-ghost use Rattle.judge_queue.specs.Rules.{queue, put, taken, reply_text};
+ghost use Rattle.std.specs.Prelude.{◌≡◌, IfOk, []};
+ghost use Rattle.judge_queue.specs.Rules.{queue, put, taken};
 
 use crate::op::{Op, Reply};
 use judge_object::{Line, Object};
 use judge_text::{Named, Names};
 use std::alloc::{AllocError, Global};
 use std::marker::Model;
-use vac_lines::append_field;
+use vac_lines::append;
 
 /// Most numbers in a queue.
 pub const CAPACITY: usize = 4;
@@ -100,12 +100,7 @@ impl Object for Queue {
     }
 
     fn print(reply: &Reply, out: &mut Vec<u8>) -> Result<(), AllocError> {
-        match reply {
-            Reply::Put(true) => out.extend_from_slice(b"true"),
-            Reply::Put(false) => out.extend_from_slice(b"false"),
-            Reply::Taken(number) => append_field(out, b"", *number),
-            Reply::Empty => out.extend_from_slice(b"-"),
-        }
+        append(reply, out)
     }
 }
 

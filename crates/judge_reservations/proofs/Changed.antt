@@ -7,7 +7,7 @@ use Rattle.std.proofs.lemmas.List.{drop_more, drop_all, get_or-map, length-map}
 use Rattle.vac_model.specs.declared.commands.Command.{Command}
 use Rattle.vac_model.specs.declared.tasks.Task.TheVariants as task
 use Rattle.vac_lines.specs.Lines.{texts}
-use Rattle.vac_lines.specs.TaskText.{words_text}
+use Rattle.vac_model.specs.TaskText.{words_text}
 use Rattle.judge_reservations.specs.declared.scope.Scope.{Scope}
 use Rattle.judge_reservations.specs.Updates.{Changed, change_part, changes_part, commands_of, results_of, shown_update}
 

@@ -37,7 +37,7 @@ use Rattle.std.proofs.lemmas.Slice.Eq.{bytes_eq-Decides}
 use Rattle.vac_model.specs.Run.{leave}
 use Rattle.vac_model.proofs.Bounds.{bill_small}
 use Rattle.vac_lines.proofs.Decimals.{all_digits}
-use Rattle.vac_lines.specs.Text.{reply_text}
+use Rattle.vac_model.specs.ReplyText.{reply_text}
 use Rattle.judge_reservations.specs.declared.scope.Scope.{Scope}
 use Rattle.judge_reservations.specs.Scopes.{has_customer, has_item, is_place_among, is_closed, is_whole, allows}
 use Rattle.judge_reservations.specs.Parts.{HasPart}

@@ -11,7 +11,7 @@ use Rattle.std.proofs.lemmas.List.{take_all, drop_all, take_more}
 use Rattle.std.proofs.lemmas.List.Elements.{All-weaker, All-head, All-tail}
 use Rattle.std.proofs.lemmas.List.Splits.{slice_split_at, slice_split_none}
 use Rattle.vac_lines.specs.Lines.{words_of, texts, HasNo}
-use Rattle.vac_lines.specs.TaskText.{spaced}
+use Rattle.vac_model.specs.TaskText.{spaced}
 use Rattle.judge_reservations.specs.Trips.{TripWords, five_words, trip_words}
 
 -- bytes that differ from a byte

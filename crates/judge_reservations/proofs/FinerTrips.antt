@@ -15,7 +15,7 @@ use Rattle.vac_model.specs.declared.tasks.Task.TheVariants as task
 use Rattle.vac_model.specs.State.{Place}
 use Rattle.vac_model.proofs.Ids.{both_true}
 use Rattle.vac_lines.specs.Lines.{words_of}
-use Rattle.vac_lines.specs.Text.{reply_text}
+use Rattle.vac_model.specs.ReplyText.{reply_text}
 use Rattle.vac_lines.proofs.Spacing.{Each}
 use Rattle.judge_reservations.specs.declared.scope.Scope.{Scope}
 use Rattle.judge_reservations.specs.Scopes.{has_customer, has_item, is_closed, IsCoarser}

@@ -26,7 +26,7 @@ use Rattle.vac_model.specs.Step.{give_back_all}
 use Rattle.vac_model.specs.Run.{Choice, choice_of, reserve_choice, book_choices, leave, steps, run}
 use Rattle.vac_model.proofs.Ids.{both_true}
 use Rattle.vac_model.proofs.Kept.{found_both, if_both}
-use Rattle.vac_lines.specs.Text.{reply_text}
+use Rattle.vac_model.specs.ReplyText.{reply_text}
 use Rattle.judge_reservations.specs.declared.scope.Scope.{Scope}
 use Rattle.judge_reservations.specs.Scopes.{has_customer, has_item, is_closed, is_whole, allows}
 use Rattle.judge_reservations.specs.Parts.{HasPart}

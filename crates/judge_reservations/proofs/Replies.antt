@@ -33,8 +33,8 @@ use Rattle.vac_lines.specs.declared.fault.LineFault.{LineFault}
 use Rattle.vac_lines.specs.declared.fault.LineFault.TheVariants.{BadNumber}
 use Rattle.vac_lines.specs.Lines.{words_of, HasNo}
 use Rattle.vac_lines.specs.LineTable.{at_number}
-use Rattle.vac_lines.specs.Text.{why_name, done_text, joined_text, pick_text, change_text, reply_text}
-use Rattle.vac_lines.specs.TaskText.{spaced, words_text}
+use Rattle.vac_model.specs.ReplyText.{why_name, done_text, joined_text, pick_text, change_text, reply_text}
+use Rattle.vac_model.specs.TaskText.{spaced, words_text}
 use Rattle.vac_lines.proofs.Decimals.{all_digits, number_read, number_in_word, is_word_byte}
 use Rattle.vac_lines.proofs.Spacing.{Each, IsPlain, words_cut}
 use Rattle.judge_reservations.specs.Tasks.{is_reply}

@@ -3,7 +3,7 @@ use Rattle.std.proofs.Common.{◌≡◌, ℕ, Bool, true, false, cond, List, [],
 use Rattle.std.specs.List.{onto_first}
 use Rattle.std.proofs.lemmas.List.Splits.{slice_split_at, slice_split_none}
 use Rattle.vac_lines.specs.Lines.{words_of}
-use Rattle.vac_lines.specs.TaskText.{spaced, words_text}
+use Rattle.vac_model.specs.TaskText.{spaced, words_text}
 use Rattle.vac_lines.proofs.Spacing.{Each, each_all}
 
 -- the test for a space

@@ -23,7 +23,7 @@ use Rattle.judge_reservations.specs.declared.answers.AnsweredTask.{AnsweredTask}
 use Rattle.judge_reservations.specs.declared.scope.Scope.{Scope}
 use Rattle.judge_reservations.specs.Scopes.{has_customer, has_item, is_closed}
 use Rattle.vac_model.specs.declared.replies.Reply.TheVariants as reply
-use Rattle.vac_lines.specs.Text.{reply_text}
+use Rattle.vac_model.specs.ReplyText.{reply_text}
 use Rattle.judge_reservations.specs.Tasks.{Answered, command_changes, customer_exists}
 use Rattle.judge_reservations.specs.Updates.{Changed, is_why, change_part, changes_part, commands_of, shown_update}
 use Rattle.judge_reservations.specs.Updates.{update_part}

@@ -26,8 +26,8 @@ use Rattle.vac_model.specs.Run.{steps, update, run, refusal_of}
 use Rattle.vac_model.proofs.Ids.{both_true}
 use Rattle.vac_model.proofs.Kept.{found_both, if_both}
 use Rattle.vac_lines.specs.Lines.{words_of}
-use Rattle.vac_lines.specs.Text.{reply_text, done_text}
-use Rattle.vac_lines.specs.TaskText.{words_text}
+use Rattle.vac_model.specs.ReplyText.{reply_text, done_text}
+use Rattle.vac_model.specs.TaskText.{words_text}
 use Rattle.judge_reservations.specs.declared.scope.Scope.{Scope}
 use Rattle.judge_reservations.specs.Scopes.{has_item, is_closed}
 use Rattle.judge_reservations.specs.Parts.{HasPart}

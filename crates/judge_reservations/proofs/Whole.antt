@@ -20,7 +20,7 @@ use Rattle.vac_model.specs.Run.{run, leave}
 use Rattle.vac_model.proofs.Empty.{empty-balanced}
 use Rattle.vac_model.proofs.Ids.{both_true}
 use Rattle.vac_model.proofs.Kept.{le_true}
-use Rattle.vac_lines.specs.Text.{reply_text}
+use Rattle.vac_model.specs.ReplyText.{reply_text}
 use Rattle.judge_object.specs.declared.span.TheConstants.{NEVER}
 use Rattle.judge_object.specs.Rules.{IsAnswerOf}
 use Rattle.judge_object.specs.Call.{Call, EachCall, is_completed}

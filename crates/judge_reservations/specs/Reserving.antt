@@ -5,7 +5,7 @@ use Rattle.vac_model.specs.Run.{run}
 use Rattle.vac_model.specs.declared.tasks.Task.{Task}
 use Rattle.vac_model.specs.declared.tasks.Task.TheVariants as task
 use Rattle.vac_model.specs.declared.replies.Reply.{Reply}
-use Rattle.vac_lines.specs.Text.{reply_text}
+use Rattle.vac_model.specs.ReplyText.{reply_text}
 
 -- the rules of the reservation system
 abbrev pub reserving : Rules State Task Reply

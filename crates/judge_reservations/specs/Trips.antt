@@ -14,8 +14,8 @@ use Rattle.vac_model.specs.declared.tasks.Task.TheVariants as task
 use Rattle.vac_model.specs.State.{Place}
 use Rattle.vac_lines.specs.Lines.{words_of}
 use Rattle.vac_lines.specs.Words.{number_between}
-use Rattle.vac_lines.specs.Text.{reply_text}
-use Rattle.vac_lines.specs.TaskText.{words_text}
+use Rattle.vac_model.specs.ReplyText.{reply_text}
+use Rattle.vac_model.specs.TaskText.{words_text}
 use Rattle.judge_reservations.specs.declared.scope.Scope.{Scope}
 use Rattle.judge_reservations.specs.declared.trips.TheConstants.{ID_DIGITS}
 use Rattle.judge_reservations.specs.declared.trips.TripWords as declared

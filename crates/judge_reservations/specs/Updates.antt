@@ -14,8 +14,8 @@ use Rattle.vac_model.specs.declared.commands.Refusal.TheVariants.{Full, NotFree,
 use Rattle.vac_model.specs.declared.tasks.Task.TheVariants as task
 use Rattle.vac_model.specs.State.{Place}
 use Rattle.vac_lines.specs.Lines.{words_of}
-use Rattle.vac_lines.specs.Text.{why_name}
-use Rattle.vac_lines.specs.TaskText.{words_text}
+use Rattle.vac_model.specs.ReplyText.{why_name}
+use Rattle.vac_model.specs.TaskText.{words_text}
 use Rattle.judge_reservations.specs.declared.scope.Scope.{Scope}
 use Rattle.judge_reservations.specs.Scopes.{has_item, is_closed}
 use Rattle.judge_reservations.specs.Tasks.{Answered}

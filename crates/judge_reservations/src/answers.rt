@@ -5,7 +5,7 @@ ghost use Rattle.vac_model.specs.declared.commands.Command.TheVariants as comman
 ghost use Rattle.vac_model.specs.declared.commands.Refusal.TheVariants.{SoldOut};
 ghost use Rattle.vac_model.specs.declared.replies.Reply.TheVariants as reply;
 ghost use Rattle.vac_model.specs.declared.tasks.Task.TheVariants as task;
-ghost use Rattle.vac_lines.specs.Text.{reply_text};
+ghost use Rattle.vac_model.specs.ReplyText.{reply_text};
 ghost use Rattle.judge_reservations.specs.Scopes.{is_closed};
 ghost use Rattle.judge_reservations.specs.Completed as whole;
 ghost use Rattle.judge_reservations.specs.Completed.{made};

@@ -7,12 +7,11 @@ ghost use Rattle.judge_reservations.specs.Scopes.{is_closed, is_whole};
 ghost use Rattle.judge_reservations.specs.Largest as largest;
 ghost use Rattle.judge_reservations.specs.Lines as spec;
 
-use crate::asked::ValidTask;
 use crate::calls::fits;
 use crate::scope::Scope;
 use judge_object::{Line, NEVER};
 use std::alloc::{AllocError, Global};
-use vac_model::Kind;
+use vac_model::{Kind, ValidTask};
 
 /// Returns the scope of some customers and items, on which all calls of a history have parts: the
 /// items that only customers of the scope book are closed, and the customers that only book items

@@ -9,12 +9,11 @@ ghost use Rattle.judge_reservations.specs.Histories.{part_of_history};
 ghost use Rattle.judge_reservations.specs.Lines as spec;
 
 use crate::answers::task_part;
-use crate::asked::ValidTask;
 use crate::pending::pending_part;
 use crate::scope::Scope;
 use judge_object::Line;
 use std::alloc::{AllocError, Global};
-use vac_model::Task;
+use vac_model::{Task, ValidTask};
 
 /// Returns the part of a history on a scope: the parts of its calls, in the order of the lines,
 /// each with the number of its line in the history. The part of a pending call is pending, and its

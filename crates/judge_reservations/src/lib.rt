@@ -3,7 +3,6 @@
 #![tactic(auto)]
 
 mod answers;
-mod asked;
 mod calls;
 mod chosen;
 mod history;
@@ -16,7 +15,6 @@ mod updates;
 mod words;
 
 pub use answers::{AnsweredTask, task_part};
-pub use asked::ValidTask;
 pub use calls::fits;
 pub use chosen::scope_of;
 pub use history::part_of_history;
@@ -28,4 +26,4 @@ pub use laws::{
 };
 pub use pending::pending_part;
 pub use reservations::Reservations;
-pub use scope::Scope;
+pub use scope::{Names, Scope};

@@ -4,12 +4,11 @@ ghost use Rattle.std.specs.Prelude.{◌≡◌, ◌≤◌, ◌↔◌, true, IfOk}
 ghost use Rattle.vac_model.specs.State.{empty_state};
 ghost use Rattle.judge_reservations.specs.Reserving.{reserving};
 
-use crate::asked::ValidTask;
 use judge_object::Object;
 use std::alloc::{AllocError, Global};
 use std::marker::Model;
-use vac_lines::print_reply;
-use vac_model::Reply;
+use vac_lines::append;
+use vac_model::{Reply, ValidTask};
 use vac_sequential::{Sequential, SequentialFault};
 
 /// A state of the reservation system, as a sequential object. Contracts see the state.
@@ -77,6 +76,6 @@ impl Object for Reservations {
     }
 
     fn print(reply: &Reply, out: &mut Vec<u8>) -> Result<(), AllocError> {
-        print_reply(reply, out)
+        append(reply, out)
     }
 }

@@ -1,9 +1,18 @@
-//! Scopes.
+//! Names and scopes.
 
 ghost use Rattle.std.specs.Prelude.{◌≡◌};
 ghost use Rattle.judge_reservations.specs.Scopes as spec;
 
 use vac_model::Kind;
+
+/// The customers and items that a scope is made of, without those that are closed or whole.
+#[derive(Drop)]
+pub struct Names {
+    /// The customers.
+    pub customers: Vec<u32>,
+    /// The items.
+    pub items: Vec<(Kind, u32)>,
+}
 
 /// Some customers and some items of the reservation system.
 #[derive(Drop)]

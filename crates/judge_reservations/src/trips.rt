@@ -11,7 +11,7 @@ use crate::answers::{AnsweredTask, Seen, customer_exists, owned};
 use crate::scope::Scope;
 use crate::words::join_words;
 use std::alloc::{AllocError, Global};
-use vac_lines::{cut_at, read_memory_word, refusal_name};
+use vac_lines::{cut_at, read_memory_word};
 use vac_model::{Command, Kind, Refusal, Task};
 
 /// Largest number of digits of an id in a reply. Leading zeros count.
@@ -199,8 +199,8 @@ fn keeps_pick(scope: &Scope, kind: Kind, pick: Shown<'_>) -> bool
     ensures { result ≡ spec.keeps_pick scope.now kind (pick.entry.0, pick.entry.1.now) }
 {
     scope.has_item(kind, pick.0)
-        && pick.1 != refusal_name(Refusal::Full)
-        && (pick.1 != refusal_name(Refusal::SoldOut) || scope.is_closed(kind, pick.0))
+        && pick.1 != Refusal::Full.name().as_bytes()
+        && (pick.1 != Refusal::SoldOut.name().as_bytes() || scope.is_closed(kind, pick.0))
 }
 
 /// Returns whether a word shows a pick that is kept.

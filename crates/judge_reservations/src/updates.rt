@@ -10,7 +10,6 @@ use crate::answers::AnsweredTask;
 use crate::scope::Scope;
 use crate::words::{join_words, split_words};
 use std::alloc::{AllocError, Global};
-use vac_lines::refusal_name;
 use vac_model::{Command, Kind, Refusal, Task};
 
 /// A change of the tables with the word for its result.
@@ -116,7 +115,7 @@ fn change_part<'a>(scope: &Scope, change: Command, word: &'a [u8]) -> Option<Cha
 {
     match change {
         Command::Add { kind, id, .. } => {
-            if !scope.has_item(kind, id) || word == refusal_name(Refusal::Full) {
+            if !scope.has_item(kind, id) || word == Refusal::Full.name().as_bytes() {
                 None
             } else {
                 Some((change, word))
@@ -145,7 +144,7 @@ fn units_change<'a>(
 {
     if !scope.has_item(item.0, item.1) {
         None
-    } else if word == refusal_name(why) && !scope.is_closed(item.0, item.1) {
+    } else if word == why.name().as_bytes() && !scope.is_closed(item.0, item.1) {
         let exists = Command::Add {
             kind: item.0,
             id: item.1,

@@ -2,7 +2,7 @@
 
 ghost use Rattle.std.specs.Prelude.{◌≡◌, ◌++◌, IfOk};
 ghost use Rattle.vac_lines.specs.Lines.{words_of, texts};
-ghost use Rattle.vac_lines.specs.TaskText.{spaced};
+ghost use Rattle.vac_model.specs.TaskText.{spaced};
 
 use std::alloc::{AllocError, Global};
 

@@ -1,6 +1,5 @@
 -- The text of a verdict, part by part.
-use Rattle.std.proofs.Common.{◌≡◌, ℕ, ◌<◌, suc, zero, List, [], ◌∷◌, ◌++◌, length, map, flat_map, get_or, refl, ap, sym}
-use Rattle.std.proofs.Common.{◌∙◌, subst, arith, append_assoc}
+use Rattle.std.proofs.Common.{◌≡◌, ◌∙◌, ℕ, ◌<◌, List, ◌++◌, length, flat_map, refl, ap, sym, subst, append_assoc}
 use Rattle.std.specs.Prelude.{All, Result, Ok, Err, OnOk, IfOk}
 use Rattle.std.specs.Global.{Vec}
 use Rattle.std.proofs.lemmas.List.{length-map}
@@ -19,13 +18,6 @@ use Rattle.judge_text.specs.Judging.{IsVerdictOnText, DecidesLegal}
 use Rattle.judge_text.specs.Texts.{part_text, stuck_text, outcome_of, AreWithin, IsPrinted, IsBlockedText, IsTextOf}
 use Rattle.judge_text.specs.Program.{JudgesText}
 use Rattle.judge_text.proofs.Naming.{names_if_blocked}
-
--- what is known of the line at a position
-pub at_get : {A B : Type 0} (f : A → B) (lines : List A) (p : ℕ) (d : B) (e : A) → p < length lines →
-    get_or (map f lines) p d ≡ f (get_or lines p e)
-at_get f [] p d e l = absurd (omega arith)
-at_get f (x ∷ xs) zero d e l = refl
-at_get f (x ∷ xs) (suc p) d e l = at_get f xs p d e (omega arith)
 
 pub on_ok : {X E : Type 0} (P Q : Type 0) → (P → Q) → (r : Result X E) → OnOk r P → OnOk r Q
 on_ok P Q f (Ok x) h = f h

@@ -3,6 +3,7 @@ use Rattle.std.proofs.Common.{◌≡◌, ◌≢◌, ℕ, ◌+◌, ◌-◌, ◌/�
 use Rattle.std.proofs.Common.{not, cond, Option, Some, None, List, [], ◌∷◌, ◌++◌, length, drop, get_or, refl, sym}
 use Rattle.std.proofs.Common.{ap, ◌∙◌, arith, append_assoc, append-nil, inl, inr, nat_lt}
 use Rattle.std.specs.Prelude.{All, flat_map, ◌⊎◌}
+use Rattle.std.specs.List.{list_all}
 use Rattle.std.proofs.lemmas.List.{drop_more}
 use Rattle.std.proofs.lemmas.Bool.Decides.{nat_tests}
 use Rattle.judge_text.specs.Quoting.{is_plain, hex_digit, hex_value, escaped, behind, behind_digits, IsPair}
@@ -19,6 +20,14 @@ third true true true s h = cc
 third false q true s h = cc
 third true false true s h = cc
 
+first_plain : (p q : Bool) → (p && q) ≡ true → p ≡ true
+first_plain true q h = refl
+first_plain false q h = h
+
+others_plain : (p q : Bool) → (p && q) ≡ true → q ≡ true
+others_plain true q h = h
+others_plain false q h = cc
+
 -- a plain byte is no quote
 plain_open : (a : ℕ) → is_plain a ≡ true → (a == 34) ≡ false
 plain_open a h = third (nat_lt 32 a) (nat_lt a 127) (a == 34) (a == 37) h
@@ -30,6 +39,14 @@ plain_step a (b ∷ []) h = ap (λ t. cond t (behind (a ∷ []) (unescaped (b �
 plain_step a (b ∷ c ∷ rest) h =
     ap (λ t. cond t (behind (a ∷ []) (unescaped (b ∷ c ∷ rest)))
     (cond (a == 37) (behind_digits (hex_value b) (hex_value c) (unescaped rest)) None)) h
+
+-- plain bytes stand for themselves
+pub plain_whole : (bytes : List ℕ) → list_all is_plain bytes ≡ true → flat_map escaped bytes ≡ bytes
+plain_whole [] h = refl
+plain_whole (b ∷ bs) h =
+    ap (λ t. cond t (b ∷ []) (37 ∷ hex_digit (b / 16) ∷ hex_digit (b % 16) ∷ []) ++ flat_map escaped bs)
+    (first_plain (is_plain b) (list_all is_plain bs) h)
+    ∙ ap (λ t. b ∷ t) (plain_whole bs (others_plain (is_plain b) (list_all is_plain bs) h))
 
 -- a percent sign and two digits stand for a byte
 pub pair_step : (a b c : ℕ) (rest : List ℕ) → is_plain a ≡ false → (a == 37) ≡ true →

@@ -1,7 +1,6 @@
 -- The text of a verdict.
 use Rattle.std.specs.Prelude.{◌≡◌, ◌<◌, ⊤, ℕ, ◌+◌, All, List, [], ◌∷◌, ◌++◌, map, flat_map, length, get_or, codes, decimal}
 use Rattle.vac_lines.specs.Script.{as_line}
-use Rattle.vac_lines.specs.Text.{field_text}
 use Rattle.judge_object.specs.Rules.{Rules}
 use Rattle.judge_object.specs.declared.line.Line.{Line}
 use Rattle.judge_search.specs.declared.stuck.Stuck.{Stuck}
@@ -29,8 +28,7 @@ fault_text number fault =
 -- the text of the verdict that a history is legal
 abbrev pub legal_text : Counts → List ℕ
 legal_text counts =
-    field_text (codes "legal calls=") counts.calls
-    ++ field_text (codes " clients=") counts.clients
+    codes "legal calls=" ++ decimal counts.calls ++ codes " clients=" ++ decimal counts.clients
     ++ as_line (codes " objects=" ++ decimal counts.objects)
 
 -- the text of the verdict that the call at a position is out of turn: the number of its line

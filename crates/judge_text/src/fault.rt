@@ -20,15 +20,15 @@ pub enum CallFault {
 
 impl CallFault {
     /// The name of the fault.
-    pub fn name(self) -> &'static [u8]
+    pub fn name(self) -> &'static str
         ensures { result.now ≡ fault_name self }
     {
         match self {
-            CallFault::BadCall => b"bad-call",
-            CallFault::BadNumber => b"bad-number",
-            CallFault::BadOperation => b"bad-operation",
-            CallFault::BadReply => b"bad-reply",
-            CallFault::HalfCall => b"half-call",
+            CallFault::BadCall => "bad-call",
+            CallFault::BadNumber => "bad-number",
+            CallFault::BadOperation => "bad-operation",
+            CallFault::BadReply => "bad-reply",
+            CallFault::HalfCall => "half-call",
         }
     }
 }

@@ -41,7 +41,7 @@ pub use object_laws::{
 };
 pub use parts::{Blocked, Judged, Undecided, judge_parts};
 pub use program::{STEPS, end_by_fault, judge_history, judge_input, read_all};
-pub use quoting::{print_quoted, read_quoted};
+pub use quoting::{Quoted, read_quoted};
 pub use starts::Starts;
 pub use turns::{Turns, find_turns};
 pub use verdict::Outcome;

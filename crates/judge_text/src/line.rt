@@ -13,7 +13,7 @@ use judge_object::{Line, NEVER, Object, Span};
 use std::alloc::{AllocError, Global};
 
 /// Returns the text of a reply, if there is one.
-fn print_reply<M: Object>(
+fn reply_text<M: Object>(
     alloc: Global,
     reply: Option<M::Reply>,
 ) -> Result<Option<Vec<u8>>, AllocError>
@@ -39,7 +39,7 @@ fn line_of<M: Object>(
 ) -> Result<Result<Line<M::Op>, CallFault>, AllocError>
     ensures { IfOk result (λ read. IsReadLine (whole_call M.rules span op reply) number read) }
 {
-    let reply = print_reply::<M>(alloc, reply)?;
+    let reply = reply_text::<M>(alloc, reply)?;
     if span.end < NEVER && reply.is_none() {
         return Ok(Err(CallFault::HalfCall));
     }

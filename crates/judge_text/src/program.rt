@@ -124,22 +124,15 @@ fn fault_line(fault: StreamFault) -> &'static [u8]
     }
 }
 
-/// Writes the last line of a program that was stopped by a fault. A failed write changes nothing.
+/// Writes the line of a fault, and returns the status of a program that a fault stopped. A failed
+/// write changes nothing.
 #[tactic(auto, using(crate::proofs::Ending::either_way))]
-fn write_fault<W: Write>(fault: StreamFault, output: &mut W)
-    ensures { AppendsPrefix (W.contents output.old) (W.contents output.new)
-        (spec.fault_line fault) }
-{
-    let _ = write_and_flush(output, fault_line(fault));
-}
-
-/// Writes the line of a fault, and returns the status of a program that a fault stopped.
 pub fn end_by_fault<W: Write>(fault: StreamFault, output: &mut W) -> u8
     ensures status { result ≡ 2 }
     ensures line { AppendsPrefix (W.contents output.old) (W.contents output.new)
         (spec.fault_line fault) }
 {
-    write_fault(fault, output);
+    let _ = write_and_flush(output, fault_line(fault));
     STOPPED
 }
 

@@ -1,10 +1,14 @@
 //! Bytes as quoted words.
 
-ghost use Rattle.std.specs.Prelude.{◌≡◌, ◌++◌, ◌∷◌, ◌<◌, IfOk, OnOk, MatchOption, None, Some};
+ghost use Rattle.std.specs.Prelude.{◌≡◌, IfOk, IfSome, MatchOption, None, Some, flat_map};
+ghost use Rattle.std.specs.List.{list_all};
 ghost use Rattle.judge_text.specs.Quoting as spec;
 ghost use Rattle.judge_text.specs.Quoting.{escaped, quoted, unescaped, unquoted};
 
 use std::alloc::{AllocError, Global};
+use std::fmt;
+use std::fmt::{Display, Formatter};
+use std::str::from_utf8;
 
 /// Returns whether a byte stands for itself between quotes: printable, no space, no quote and no
 /// percent sign.
@@ -12,18 +16,6 @@ fn is_plain(byte: u8) -> bool
     ensures { result ≡ spec.is_plain byte }
 {
     32 < byte && byte < 127 && byte != b'"' && byte != b'%'
-}
-
-/// Returns the hexadecimal digit of a number below 16.
-fn hex_digit(number: u8) -> u8
-    requires { number < 16 }
-    ensures { result ≡ spec.hex_digit number }
-{
-    if number < 10 {
-        48 + number
-    } else {
-        87 + number
-    }
 }
 
 /// Returns the number that a hexadecimal digit writes.
@@ -39,28 +31,64 @@ fn hex_value(digit: u8) -> Option<u8>
     }
 }
 
-/// Appends a byte as it stands between quotes.
-fn push_escaped(byte: u8, out: &mut Vec<u8>) -> Result<(), AllocError>
-    ensures { OnOk result (out.new.items ≡ out.old.items ++ escaped byte) }
-{
-    if is_plain(byte) {
-        out.push(byte)?;
-        return Ok(());
-    }
-    out.extend_from_slice(&[b'%', hex_digit(byte / 16), hex_digit(byte % 16)])
+/// A byte as it stands between quotes.
+#[derive(Clone, Copy)]
+struct EscapedByte {
+    byte: u8,
 }
 
-/// Appends bytes as a quoted word.
-pub fn print_quoted(bytes: &[u8], out: &mut Vec<u8>) -> Result<(), AllocError>
-    ensures { OnOk result (out.new.items ≡ out.old.items ++ quoted bytes.now) }
-{
-    out.reserve(bytes.len().saturating_add(2))?;
-    out.push(b'"')?;
-    'bytes: for at in 0..bytes.len() {
-        push_escaped(bytes[at], out)?;
+impl Display for EscapedByte {
+    ghost output = { λ word. Some (escaped word.byte) };
+
+    fn fmt<W: fmt::Write>(&self, f: &mut Formatter<W>) -> fmt::Result {
+        let byte = self.byte;
+        if is_plain(byte) {
+            write!(f, "{}", char::from(byte))
+        } else {
+            write!(f, "%{byte:02x}")
+        }
     }
-    out.push(b'"')?;
-    Ok(())
+}
+
+/// Returns whether each byte stands for itself between quotes.
+fn are_plain(bytes: &[u8]) -> bool
+    ensures { result ≡ list_all spec.is_plain bytes.now }
+{
+    bytes.iter().all(|byte| is_plain(*byte))
+}
+
+/// Returns bytes as a text if each of them stands for itself between quotes.
+#[tactic(auto, using(crate::proofs::Quotes::plain_whole))]
+fn plain_text(bytes: &[u8]) -> Option<&str>
+    ensures { IfSome result (λ text. text.now ≡ flat_map escaped bytes.now) }
+{
+    if are_plain(bytes) {
+        from_utf8(bytes).ok()
+    } else {
+        None
+    }
+}
+
+/// Bytes as a quoted word.
+#[derive(Clone, Copy)]
+pub struct Quoted<'a> {
+    /// The bytes.
+    pub bytes: &'a [u8],
+}
+
+impl Display for Quoted<'_> {
+    ghost output = { λ word. Some (quoted word.bytes.now) };
+
+    fn fmt<W: fmt::Write>(&self, f: &mut Formatter<W>) -> fmt::Result {
+        if let Some(text) = plain_text(self.bytes) {
+            return write!(f, "\"{text}\"");
+        }
+        write!(f, "\"")?;
+        for byte in self.bytes {
+            write!(f, "{}", EscapedByte { byte: *byte })?;
+        }
+        write!(f, "\"")
+    }
 }
 
 /// Returns the byte that two hexadecimal digits write.

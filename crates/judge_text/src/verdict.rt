@@ -1,9 +1,8 @@
 //! The text of a verdict.
 
-ghost use Rattle.std.specs.Prelude.{◌≡◌, ◌++◌, ◌<◌, All, IfOk, OnOk, decimal, flat_map, length};
-ghost use Rattle.vac_lines.specs.Script.{as_line};
+ghost use Rattle.std.specs.Prelude.{◌≡◌, ◌++◌, ◌<◌, Some, IfOk, OnOk, flat_map, length};
 ghost use Rattle.judge_text.specs.Classing.{object_of, for_object};
-ghost use Rattle.judge_text.specs.Texts.{fault_text, legal_text, named_text, stuck_text, first_text, part_text};
+ghost use Rattle.judge_text.specs.Texts.{named_text, part_text, stuck_text};
 ghost use Rattle.judge_text.specs.Texts.{kind_of, outcome_of, AreWithin, HasPlace, HasPlaceIn};
 ghost use Rattle.judge_text.specs.Texts.{IsPrinted, IsBlockedText, IsTextOn, IsTextOf};
 
@@ -14,11 +13,13 @@ use crate::judging::TextVerdict;
 use crate::named::Named;
 use crate::names::Names;
 use crate::parts::Blocked;
-use crate::quoting::print_quoted;
+use crate::quoting::Quoted;
 use judge_object::{Line, Object};
 use judge_search::{Stuck, stuck_calls};
 use std::alloc::{AllocError, Global};
-use vac_lines::append_field;
+use std::fmt;
+use std::fmt::{Display, Formatter};
+use vac_lines::print;
 
 /// The kind of a verdict.
 #[derive(Clone, Copy, Debug, PartialEq, Eq)]
@@ -31,60 +32,24 @@ pub enum Outcome {
     Undecided,
 }
 
-/// Appends a text and a number as a line.
-fn print_count(text: &[u8], number: u64, out: &mut Vec<u8>) -> Result<(), AllocError>
-    ensures { OnOk result
-        (out.new.items ≡ out.old.items ++ as_line (text.now ++ decimal number)) }
-{
-    append_field(out, text, number)?;
-    out.extend_from_slice(b"\n")
+/// The first line of the verdict that the calls of an object have no linearization: the number of
+/// the line of a blocked call, and the name of the object.
+#[derive(Clone, Copy)]
+struct IllegalPartLine<'a> {
+    number: u64,
+    name: &'a [u8],
 }
 
-/// Appends the verdict on a text whose line with this number is no call.
-fn print_fault(number: u64, fault: CallFault, out: &mut Vec<u8>) -> Result<(), AllocError>
-    ensures { OnOk result (out.new.items ≡ out.old.items ++ fault_text number fault) }
-{
-    out.extend_from_slice(b"fault ")?;
-    out.extend_from_slice(fault.name())?;
-    print_count(b" ", number, out)
+impl Display for IllegalPartLine<'_> {
+    ghost output = { λ part. Some (named_text part.number part.name.now) };
+
+    fn fmt<W: fmt::Write>(&self, f: &mut Formatter<W>) -> fmt::Result {
+        let name = Quoted { bytes: self.name };
+        write!(f, "illegal part {} {name}\n", self.number)
+    }
 }
 
-/// Appends the verdict on a legal history.
-fn print_legal(counts: Counts, out: &mut Vec<u8>) -> Result<(), AllocError>
-    ensures { OnOk result (out.new.items ≡ out.old.items ++ legal_text counts) }
-{
-    append_field(out, b"legal calls=", counts.calls)?;
-    append_field(out, b" clients=", counts.clients)?;
-    print_count(b" objects=", counts.objects, out)
-}
-
-/// Appends the number of a line, and the name of its object.
-fn print_named(number: u64, name: &[u8], out: &mut Vec<u8>) -> Result<(), AllocError>
-    ensures { OnOk result (out.new.items ≡ out.old.items ++ named_text number name.now) }
-{
-    append_field(out, b"illegal part ", number)?;
-    out.extend_from_slice(b" ")?;
-    print_quoted(name, out)?;
-    out.extend_from_slice(b"\n")
-}
-
-/// Appends the line of the first blocked call.
-fn print_first<M: Named>(
-    names: &Names,
-    lines: &[Line<M::Op>],
-    first: &Stuck<M::Reply>,
-    out: &mut Vec<u8>,
-) -> Result<(), AllocError>
-    requires { first.now.place < length lines.now }
-    ensures { OnOk result
-        (out.new.items ≡ out.old.items
-        ++ first_text (for_object (object_of names.now) M.name) lines.now first.now) }
-{
-    let line = &lines[first.place];
-    print_named(line.number, names.name::<M>(&line.op), out)
-}
-
-/// Appends the line of the first blocked call, if a call is blocked.
+/// Appends the line of the first blocked call, and the name of its object, if a call is blocked.
 fn print_part<M: Named>(
     names: &Names,
     lines: &[Line<M::Op>],
@@ -97,7 +62,17 @@ fn print_part<M: Named>(
         ++ part_text (for_object (object_of names.now) M.name) lines.now stuck.now) }
 {
     match stuck {
-        [first, ..] => print_first::<M>(names, lines, first, out),
+        [first, ..] => {
+            let Line { number, op, .. } = &lines[first.place];
+            let name = names.name::<M>(op);
+            print(
+                IllegalPartLine {
+                    number: *number,
+                    name,
+                },
+                out,
+            )
+        }
         [] => Ok(()),
     }
 }
@@ -112,8 +87,7 @@ fn print_stuck<M: Object>(
     ensures { OnOk result
         (out.new.items ≡ out.old.items ++ stuck_text M.rules lines.now stuck.now) }
 {
-    append_field(out, b"stuck ", lines[stuck.place].number)?;
-    out.extend_from_slice(b" ")?;
+    print(format_args!("stuck {} ", lines[stuck.place].number), out)?;
     M::print(&stuck.expected, out)?;
     out.extend_from_slice(b"\n")
 }
@@ -168,11 +142,19 @@ fn print_judged<M: Named + Drop>(
 {
     match verdict {
         Verdict::Linearizable => {
-            print_legal(counts, out)?;
+            let Counts {
+                calls,
+                clients,
+                objects,
+            } = counts;
+            print(
+                format_args!("legal calls={calls} clients={clients} objects={objects}\n"),
+                out,
+            )?;
             Ok(Outcome::Legal)
         }
         Verdict::OutOfTurn(place) => {
-            print_count(b"illegal client ", *place as u64 + 1, out)?;
+            print(format_args!("illegal client {}\n", *place as u64 + 1), out)?;
             Ok(Outcome::Illegal)
         }
         Verdict::NotLinearizable(blocked) => {
@@ -180,11 +162,11 @@ fn print_judged<M: Named + Drop>(
             Ok(Outcome::Illegal)
         }
         Verdict::Unknown(undecided) => {
-            print_count(b"undecided ", undecided.most, out)?;
+            print(format_args!("undecided {}\n", undecided.most), out)?;
             Ok(Outcome::Undecided)
         }
         Verdict::Touching => {
-            out.extend_from_slice(b"touching\n")?;
+            print("touching\n", out)?;
             Ok(Outcome::Undecided)
         }
     }
@@ -203,7 +185,7 @@ pub(crate) fn print_verdict<M: Named + Drop>(
     let mut out = Vec::new(alloc);
     let outcome = match verdict {
         TextVerdict::Fault(number, fault) => {
-            print_fault(*number, *fault, &mut out)?;
+            print(format_args!("fault {} {number}\n", fault.name()), &mut out)?;
             Outcome::Illegal
         }
         TextVerdict::Judged(names, counts, verdict) => {

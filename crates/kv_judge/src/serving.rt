@@ -14,9 +14,9 @@ use crate::files::Open;
 use crate::options::{Asked, Scope, read_asked};
 use judge_kv::{Cell, FirstValues, StartFault, StartValues, Store, read_first_values};
 use judge_text::{Starts, end_by_fault, judge_input, read_all};
-use std::alloc::{AllocError, Global};
+use std::alloc::Global;
 use std::io::{Read, Write};
-use vac_lines::{StreamFault, append_field, write_and_flush};
+use vac_lines::{StreamFault, print, write_and_flush};
 
 /// The help.
 const HELP: &[u8] = b"usage: kv_judge [--whole] [--start FILE] < HISTORY\n\
@@ -58,18 +58,6 @@ fn read_start<F: StartValues, S: Read>(
     Ok(read)
 }
 
-/// Returns the text that names the fault of a line of a start file.
-fn fault_text(alloc: Global, number: u64, fault: StartFault) -> Result<Vec<u8>, AllocError>
-    ensures { IfOk result (λ text. text.items ≡ spec.start_fault_text number fault) }
-{
-    let mut text = Vec::new(alloc);
-    text.extend_from_slice(b"fault ")?;
-    text.extend_from_slice(fault.name())?;
-    append_field(&mut text, b" ", number)?;
-    text.extend_from_slice(b"\n")?;
-    Ok(text)
-}
-
 /// Writes a text, and returns this status, or that of a stopped program if the output failed.
 fn end_with<W: Write>(done: u8, text: &[u8], output: &mut W) -> u8
     ensures { EndsWith done text.now result (W.contents output.old) (W.contents output.new) }
@@ -84,8 +72,9 @@ fn end_with<W: Write>(done: u8, text: &[u8], output: &mut W) -> u8
 fn name_fault<W: Write>(alloc: Global, number: u64, fault: StartFault, output: &mut W) -> u8
     ensures { EndsAtFault number fault result (W.contents output.old) (W.contents output.new) }
 {
-    match fault_text(alloc, number, fault) {
-        Ok(text) => end_with(FAULT, text.as_slice(), output),
+    let mut text = Vec::new(alloc);
+    match print(format_args!("fault {} {number}\n", fault.name()), &mut text) {
+        Ok(()) => end_with(FAULT, text.as_slice(), output),
         Err(_) => end_by_fault(StreamFault::Memory, output),
     }
 }

@@ -15,7 +15,7 @@ use Rattle.vac_model.specs.declared.replies.Reply.{Reply}
 use Rattle.vac_model.specs.State.{State}
 use Rattle.vac_model.specs.Run.{run}
 use Rattle.vac_model.proofs.Codes.{code_determines}
-use Rattle.vac_lines.specs.Text.{reply_text}
+use Rattle.vac_model.specs.ReplyText.{reply_text}
 use Rattle.vac_manager.specs.Legal.{RecordRuns, IsLegal, AreNoRivals, HaveOneWriter, AreVersioned}
 use Rattle.vac_manager.specs.declared.note.CompletedCall.{CompletedCall}
 use Rattle.vac_manager.specs.Placed.{CommitPosition}

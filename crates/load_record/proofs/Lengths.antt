@@ -5,7 +5,7 @@ use Rattle.std.proofs.lemmas.Fmt.{length-decimal-le}
 use Rattle.std.proofs.lemmas.List.Elements.{All-head, All-tail}
 use Rattle.tx_memory.specs.declared.access.Access.{Access as MadeAccess}
 use Rattle.tx_memory.specs.declared.access.Access.TheVariants as made
-use Rattle.vac_lines.specs.Text.{field_text}
+use Rattle.vac_model.specs.ReplyText.{field_text}
 use Rattle.load_record.specs.Lines.{AttemptEntry, access_text, accesses_text, outcome_text, head_text}
 use Rattle.load_record.specs.Entries.{FitsAccess, HasNumbers, FewAccessesFit}
 

@@ -12,7 +12,7 @@ use Rattle.tx_memory.specs.declared.access.Access.{Access as MadeAccess}
 use Rattle.tx_memory.specs.declared.access.Access.TheVariants as made
 use Rattle.vac_lines.specs.Lines.{words_of, lines_of, HasNo}
 use Rattle.vac_lines.specs.LineTable.{is_bad_byte}
-use Rattle.vac_lines.specs.TaskText.{spaced, words_text}
+use Rattle.vac_model.specs.TaskText.{spaced, words_text}
 use Rattle.vac_lines.specs.Words.{decimal_value, memory_word_of}
 use Rattle.vac_lines.proofs.Decimals.{all_digits, number_in_word}
 use Rattle.vac_lines.proofs.Spacing.{Each, IsPlain, words_cut, words_clean}

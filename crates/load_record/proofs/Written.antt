@@ -5,7 +5,8 @@ use Rattle.std.specs.List.{All}
 use Rattle.std.proofs.lemmas.Bool.{le-ltb}
 use Rattle.std.proofs.lemmas.List.Elements.{All-nil, All-cons, All-head, All-tail}
 use Rattle.vac_lines.specs.LineTable.{words_task}
-use Rattle.vac_lines.specs.TaskText.{task_words, task_text, TaskTextsAreRead}
+use Rattle.vac_lines.specs.TaskText.{TaskTextsAreRead}
+use Rattle.vac_model.specs.TaskText.{task_words, task_text}
 use Rattle.vac_lines.proofs.Spacing.{words_cut, words_clean}
 use Rattle.vac_lines.proofs.TaskReading.{words_read, words_plain, task_some}
 use Rattle.vac_manager.specs.declared.note.CompletedCall.{CompletedCall}

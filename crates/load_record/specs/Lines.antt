@@ -4,7 +4,7 @@ use Rattle.std.specs.Prelude.{ℕ, Bool, true, false, List, ◌++◌, flat_map, 
 use Rattle.tx_memory.specs.declared.access.Access.{Access}
 use Rattle.tx_memory.specs.declared.access.Access.TheVariants.{Read, Write}
 use Rattle.vac_lines.specs.Script.{as_line}
-use Rattle.vac_lines.specs.Text.{field_text}
+use Rattle.vac_model.specs.ReplyText.{field_text}
 use Rattle.vac_manager.specs.declared.note.TracedAttempt.{TracedAttempt}
 use Rattle.load_record.specs.declared.lines.Line.{Line}
 

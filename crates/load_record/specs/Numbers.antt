@@ -8,7 +8,7 @@ use Rattle.vac_model.specs.declared.replies.Reply.{Reply}
 use Rattle.vac_model.specs.declared.replies.Reply.TheVariants as reply
 use Rattle.vac_model.specs.Ranges.{is_task}
 use Rattle.vac_lines.specs.declared.line.TheConstants.{LINE_BYTES}
-use Rattle.vac_lines.specs.TaskText.{task_text}
+use Rattle.vac_model.specs.TaskText.{task_text}
 use Rattle.vac_manager.specs.declared.note.CompletedCall.{CompletedCall}
 use Rattle.judge_calls.specs.CallText.{IsReply}
 use Rattle.load_record.specs.Order.{list_at}

@@ -1,6 +1,6 @@
 //! One history of the calls of all clients.
 
-ghost use Rattle.std.specs.Prelude.{◌≡◌, ◌⊎◌, ◌<◌, false, ◌^◌, ◌++◌, [], length, codes, OnOk, OnErr, IfOk, IfErr, IsErrOf};
+ghost use Rattle.std.specs.Prelude.{◌≡◌, ◌⊎◌, ◌<◌, false, ◌^◌, ◌++◌, Some, [], length, OnOk, OnErr, IfOk, IfErr, IsErrOf};
 ghost use Rattle.std.specs.List.{list_all};
 ghost use Rattle.vac_lines.specs.Script.{as_line};
 ghost use Rattle.judge_calls.specs.CallText.{call_text, end_text};
@@ -11,7 +11,6 @@ ghost use Rattle.load_record.specs.Order.{entries_from};
 ghost use Rattle.load_record.specs.Rests.{left_of, picked_entry};
 ghost use Rattle.load_record.specs.History.{call_of_entry, kept_by, are_whole};
 ghost use Rattle.load_record.specs.History.{WroteHistory, WroteHistoryPrefix};
-ghost use Rattle.load_record.specs.Sending.{number_and_space, stamps_text, task_and_reply_text};
 ghost use Rattle.load_record.specs.Sending.{SentMerged, MergedPrefix};
 
 use crate::journal::CallRecorder;
@@ -19,54 +18,36 @@ use crate::merging::{NextCall, RemainingCalls, take_least};
 use crate::watch::StampClock;
 use load_tasks::OPENING;
 use std::alloc::{AllocError, Global};
+use std::fmt;
+use std::fmt::{Display, Formatter};
 use std::io::Write;
-use vac_lines::{StreamFault, print_reply, print_task, send_chunk, send_rest};
-use vac_manager::CompletedCall;
-use vac_model::Reply;
+use vac_lines::{StreamFault, print, send_chunk, send_rest};
 
-/// Appends a number and a space.
-fn append_number(hand: &mut Vec<u8>, number: u64) -> Result<(), AllocError>
-    ensures { OnOk result
-        (hand.new.items ≡ hand.old.items ++ number_and_space number) }
-{
-    print_reply(&Reply::Number(Some(number)), hand)?;
-    hand.extend_from_slice(b" ")
+impl Display for NextCall<'_> {
+    ghost output = { λ picked. Some (call_text (call_of_entry (picked_entry picked))) };
+
+    fn fmt<W: fmt::Write>(&self, f: &mut Formatter<W>) -> fmt::Result {
+        let (client, begin) = (self.client, self.note.begin);
+        let end = CompletedEnd { end: self.note.end };
+        let (task, reply) = (&self.note.task, &self.note.reply);
+        write!(f, "{client} {begin} {end} {task} -> {reply}")
+    }
 }
 
-/// Appends the end of a completed call, and a space.
-fn append_end(hand: &mut Vec<u8>, end: u64) -> Result<(), AllocError>
-    ensures { OnOk result (hand.new.items ≡ hand.old.items ++ (end_text end ++ codes " ")) }
-{
-    append_number(hand, end)
+/// The end of a completed call. Its text is a number, since a call that ended has an end below
+/// that of a pending call; the type lets the prover see that.
+#[derive(Clone, Copy)]
+struct CompletedEnd {
+    end: u64,
 }
 
-/// Appends a call's client and times, with a space after each.
-fn append_stamps(hand: &mut Vec<u8>, picked: NextCall<'_>) -> Result<(), AllocError>
-    ensures { OnOk result
-        (hand.new.items ≡ hand.old.items ++ stamps_text (picked_entry picked.entry)) }
-{
-    append_number(hand, u64::from(picked.client))?;
-    append_number(hand, picked.note.begin)?;
-    append_end(hand, picked.note.end)
-}
+impl Display for CompletedEnd {
+    ghost output = { λ completed. Some (end_text completed.end) };
 
-/// Appends a call's task and reply.
-fn append_answer(hand: &mut Vec<u8>, note: &CompletedCall) -> Result<(), AllocError>
-    ensures { OnOk result (hand.new.items ≡ hand.old.items ++ task_and_reply_text note.now) }
-{
-    print_task(&note.task, hand)?;
-    hand.extend_from_slice(b" -> ")?;
-    print_reply(&note.reply, hand)
-}
-
-/// Appends the line of a call.
-fn append_line(hand: &mut Vec<u8>, picked: NextCall<'_>) -> Result<(), AllocError>
-    ensures { OnOk result (hand.new.items
-        ≡ hand.old.items ++ as_line (call_text (call_of_entry (picked_entry picked.entry)))) }
-{
-    append_stamps(hand, picked)?;
-    append_answer(hand, picked.note)?;
-    hand.extend_from_slice(b"\n")
+    fn fmt<W: fmt::Write>(&self, f: &mut Formatter<W>) -> fmt::Result {
+        let end = self.end;
+        write!(f, "{end}")
+    }
 }
 
 /// Sends the line of a call.
@@ -82,7 +63,7 @@ fn send_line<W: Write>(
         (hand.old.items ++ as_line (call_text (call_of_entry (picked_entry picked.entry))))) }
     ensures fault { IfErr result (λ fault. (fault ≡ Memory) ⊎ (fault ≡ Write)) }
 {
-    append_line(hand, picked)?;
+    print(format_args!("{picked}\n"), hand)?;
     send_chunk(output, hand)
 }
 

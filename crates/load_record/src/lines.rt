@@ -1,12 +1,11 @@
 //! The line of an attempt.
 
-ghost use Rattle.std.specs.Prelude.{◌≡◌, ◌++◌, OnOk};
-ghost use Rattle.load_record.specs.Lines.{access_text, accesses_text, outcome_text};
-ghost use Rattle.load_record.specs.Lines.{head_text, line_text, line_entry};
+ghost use Rattle.std.specs.Prelude.{◌++◌, Some};
+ghost use Rattle.load_record.specs.Lines.{accesses_text, head_text, line_entry};
 
-use std::alloc::AllocError;
+use std::fmt;
+use std::fmt::{Display, Formatter};
 use tx_memory::Access;
-use vac_lines::append_field;
 use vac_manager::TracedAttempt;
 
 /// An attempt to be written, and the number of its client.
@@ -16,58 +15,40 @@ pub(crate) struct Line<'a> {
     pub(crate) attempt: &'a TracedAttempt,
 }
 
-/// Appends an access, after a space.
-fn append_access(out: &mut Vec<u8>, access: Access) -> Result<(), AllocError>
-    ensures { OnOk result (out.new.items ≡ out.old.items ++ access_text access) }
-{
-    match access {
-        Access::Read { addr, value } => {
-            append_field(out, b" r ", u64::from(addr.0))?;
-            append_field(out, b" ", value)
+impl Display for Line<'_> {
+    ghost output = { λ line. Some
+        (head_text (line_entry line) ++ accesses_text line.attempt.now.accesses.items) };
+
+    fn fmt<W: fmt::Write>(&self, f: &mut Formatter<W>) -> fmt::Result {
+        let (client, begin, end) = (self.client, self.attempt.begin, self.attempt.end);
+        let outcome = if self.attempt.commits {
+            "commit"
+        } else {
+            "abort"
+        };
+        let accesses = AccessList {
+            accesses: self.attempt.accesses.as_slice(),
+        };
+        write!(f, "{client} {begin} {end} {outcome}{accesses}")
+    }
+}
+
+/// Reads and writes, each after a space.
+#[derive(Clone, Copy)]
+struct AccessList<'a> {
+    accesses: &'a [Access],
+}
+
+impl Display for AccessList<'_> {
+    ghost output = { λ list. Some (accesses_text list.accesses.now) };
+
+    fn fmt<W: fmt::Write>(&self, f: &mut Formatter<W>) -> fmt::Result {
+        for access in self.accesses {
+            match *access {
+                Access::Read { addr, value } => write!(f, " r {} {value}", addr.0)?,
+                Access::Write { addr, value } => write!(f, " w {} {value}", addr.0)?,
+            }
         }
-        Access::Write { addr, value } => {
-            append_field(out, b" w ", u64::from(addr.0))?;
-            append_field(out, b" ", value)
-        }
+        Ok(())
     }
-}
-
-/// Appends accesses, each after a space.
-fn append_accesses(out: &mut Vec<u8>, accesses: &[Access]) -> Result<(), AllocError>
-    ensures { OnOk result (out.new.items ≡ out.old.items ++ accesses_text accesses.now) }
-{
-    for access in accesses {
-        append_access(out, *access)?;
-    }
-    Ok(())
-}
-
-/// Appends the outcome of an attempt, after a space.
-fn append_outcome(out: &mut Vec<u8>, commits: bool) -> Result<(), AllocError>
-    ensures { OnOk result (out.new.items ≡ out.old.items ++ outcome_text commits) }
-{
-    if commits {
-        out.extend_from_slice(b" commit")
-    } else {
-        out.extend_from_slice(b" abort")
-    }
-}
-
-/// Appends the client, begin, end and outcome of an attempt.
-fn append_head(out: &mut Vec<u8>, line: Line<'_>) -> Result<(), AllocError>
-    ensures { OnOk result (out.new.items ≡ out.old.items ++ head_text (line_entry line.entry)) }
-{
-    append_field(out, b"", u64::from(line.client))?;
-    append_field(out, b" ", line.attempt.begin)?;
-    append_field(out, b" ", line.attempt.end)?;
-    append_outcome(out, line.attempt.commits)
-}
-
-/// Appends the line of an attempt.
-pub(crate) fn append_line(out: &mut Vec<u8>, line: Line<'_>) -> Result<(), AllocError>
-    ensures { OnOk result (out.new.items ≡ out.old.items ++ line_text (line_entry line.entry)) }
-{
-    append_head(out, line)?;
-    append_accesses(out, line.attempt.accesses.as_slice())?;
-    out.extend_from_slice(b"\n")
 }

@@ -20,13 +20,13 @@ use crate::fitting::are_short_lines;
 use crate::gathering::{add_all, add_attempts};
 use crate::laying::lay;
 use crate::ledger::AttemptRecorder;
-use crate::lines::{Line, append_line};
+use crate::lines::Line;
 use crate::{StampClock, rank};
 use load_tasks::OPENING;
 use std::alloc::{AllocError, Global};
 use std::io::Write;
 use tx_alloc::place::{BLOCK_WORDS, FIRST_BLOCK};
-use vac_lines::{StreamFault, send_chunk, send_rest};
+use vac_lines::{StreamFault, print, send_chunk, send_rest};
 use vac_manager::TracedAttempt;
 
 /// Returns the sort key of an attempt: its renewal, its version with the writer of a version
@@ -59,7 +59,7 @@ fn send_line<O: Write>(
         (hand.old.items ++ line_text (line_entry line.entry))) }
     ensures fault { IfErr result (λ fault. (fault ≡ Memory) ⊎ (fault ≡ Write)) }
 {
-    append_line(hand, line)?;
+    print(format_args!("{line}\n"), hand)?;
     send_chunk(output, hand)
 }
 

@@ -10,3 +10,4 @@ pub mod Slots
 pub mod Several
 pub mod Load
 pub mod Streams
+pub mod Summary

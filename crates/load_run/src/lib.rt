@@ -17,6 +17,7 @@ mod plan;
 mod rounds;
 mod slots;
 mod statistics;
+mod summary;
 mod sums;
 mod workers;
 
@@ -27,3 +28,4 @@ pub use opening::open_kept;
 pub use outcomes::Outcomes;
 pub use slots::{Recorders, Slot, no_recorders};
 pub use statistics::AttemptStatistics;
+pub use summary::LoadSummary;

@@ -10,7 +10,7 @@ use Rattle.load_tasks.specs.Setting.{is_settings}
 use Rattle.load_tasks.specs.Tasks.{task_of, opening}
 use Rattle.vac_lines.specs.declared.line.TheConstants.{LINE_BYTES}
 use Rattle.vac_lines.specs.LineTable.{line_task}
-use Rattle.vac_lines.specs.TaskText.{task_text}
+use Rattle.vac_model.specs.TaskText.{task_text}
 use Rattle.load_tasks.specs.Worklist.{IsTasksText}
 
 -- a load with these settings has exactly one text of its tasks

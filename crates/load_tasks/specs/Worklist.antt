@@ -12,7 +12,7 @@ use Rattle.load_tasks.specs.Streams.{stream_of, gives}
 use Rattle.load_tasks.specs.Tasks.{task_of, opening}
 use Rattle.vac_lines.specs.Writing.{AppendsPrefix}
 use Rattle.vac_lines.specs.Script.{as_line}
-use Rattle.vac_lines.specs.TaskText.{task_text}
+use Rattle.vac_model.specs.TaskText.{task_text}
 
 -- the line `CLIENT LINE`: a task as an output line, after the number of its client
 abbrev pub task_line : ℕ → Task → List ℕ

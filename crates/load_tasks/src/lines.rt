@@ -1,26 +1,15 @@
 //! The line of one task.
 
-ghost use Rattle.std.specs.Prelude.{◌≡◌, ◌≢◌, ◌++◌, OnOk, OnErr, IfErr};
+ghost use Rattle.std.specs.Prelude.{◌≢◌, ◌++◌, OnOk, OnErr, IfErr};
 ghost use Rattle.load_tasks.specs.declared.fault.TasksFault.TheVariants.{Arguments};
 ghost use Rattle.vac_lines.specs.Writing.{AppendsPrefix};
 ghost use Rattle.load_tasks.specs.Worklist.{task_line};
 ghost use Rattle.vac_lines.specs.Sent.{Sent};
 
 use crate::fault::TasksFault;
-use std::alloc::AllocError;
 use std::io::Write;
-use vac_lines::{print_reply, print_task, send_chunk};
-use vac_model::{Reply, Task};
-
-/// Appends the line of a client's task to the buffer.
-fn append_line(hand: &mut Vec<u8>, client: u32, task: &Task) -> Result<(), AllocError>
-    ensures { OnOk result (hand.new.items ≡ hand.old.items ++ task_line client task.now) }
-{
-    print_reply(&Reply::Number(Some(u64::from(client))), hand)?;
-    hand.extend_from_slice(b" ")?;
-    print_task(task, hand)?;
-    hand.extend_from_slice(b"\n")
-}
+use vac_lines::{print, send_chunk};
+use vac_model::Task;
 
 /// Appends the line of a client's task to the buffer, which is written if it has a chunk.
 pub(crate) fn send_line<W: Write>(
@@ -35,7 +24,7 @@ pub(crate) fn send_line<W: Write>(
         (hand.old.items ++ task_line client task.now)) }
     ensures in_range { IfErr result (λ fault. fault ≢ Arguments) }
 {
-    append_line(hand, client, task)?;
+    print(format_args!("{client} {task}\n"), hand)?;
     match send_chunk(output, hand) {
         Ok(()) => Ok(()),
         Err(_) => Err(TasksFault::Write),

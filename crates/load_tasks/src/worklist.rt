@@ -39,11 +39,11 @@ fn send_all<W: Write>(
     Ok(())
 }
 
-/// Writes the tasks of a load with these settings, one a line as `CLIENT LINE`, LINE being the
-/// output of [`print_task`](vac_lines::print_task). The commands of the setup phase come first,
-/// under client 0, then the tasks of client 1 in all rounds, then those of client 2, and so on.
-/// The tasks are exactly those of the load with these settings. The settings for attempts, blocks
-/// and the last version change nothing, but must be in their ranges.
+/// Writes the tasks of a load with these settings, one a line as `CLIENT LINE`. LINE is what the
+/// `Display` of the task writes. The commands of the setup phase come first, under client 0, then
+/// the tasks of client 1 in all rounds, then those of client 2, and so on. The tasks are exactly
+/// those of the load with these settings. The settings for attempts, blocks and the last version
+/// change nothing, but must be in their ranges.
 ///
 /// Takes memory for one chunk of text and one task. After a fault, nothing or a prefix of the
 /// whole text was written.

@@ -1,10 +1,10 @@
 //! Histories of a few lines, with the judge's output.
 
 use crate::texts::{Row, fill_up, in_pieces};
-use judge_calls::{CALL_BYTES, Judge, Verdict, judge_history, print_verdict};
+use judge_calls::{CALL_BYTES, Judge, Verdict, judge_history};
 use std::alloc::{AllocError, Global};
 use std::test::Fail;
-use vac_lines::StreamFault;
+use vac_lines::{StreamFault, print};
 
 /// Blocks of the system.
 pub(crate) const BLOCKS: u32 = 4;
@@ -24,7 +24,7 @@ fn verdict_on(alloc: Global, lines: &[&str]) -> Result<Verdict, StreamFault> {
 fn judged(alloc: Global, lines: &[&str]) -> Result<Vec<u8>, StreamFault> {
     let verdict = verdict_on(alloc, lines)?;
     let mut text = Vec::new(alloc);
-    print_verdict(&verdict, &mut text)?;
+    print(&verdict, &mut text)?;
     Ok(text)
 }
 
@@ -165,7 +165,7 @@ fn first_judged(alloc: Global, line: &[u8]) -> Result<Vec<u8>, StreamFault> {
     let mut judge = Judge::new(alloc, BLOCKS)?;
     let mut text = Vec::new(alloc);
     if let Some(verdict) = judge.judge_line(alloc, line)? {
-        print_verdict(&verdict, &mut text)?;
+        print(&verdict, &mut text)?;
     }
     Ok(text)
 }

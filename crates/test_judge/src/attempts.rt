@@ -1,7 +1,8 @@
 //! The figures of attempts.
 
 use crate::calls::{Call, intervals_of};
-use judge_coverage::{Outcome, measure_attempts, print_attempts_coverage, print_attempts_warning};
+use judge_coverage::{AttemptsWarning, Outcome, measure_attempts};
+use vac_lines::print;
 
 /// Attempts, their outcomes (committed, wrote), the lines about them, and the warning.
 type Row = (
@@ -57,14 +58,17 @@ fn attempts_have_these_figures(rt: HostRuntime) {
             outcomes.as_slice(),
         ).expect(&rt, "memory");
         let mut text = Vec::new(rt.alloc());
-        print_attempts_coverage(&coverage, &mut text).expect(&rt, "memory for the lines");
+        print(&coverage, &mut text).expect(&rt, "memory for the lines");
         assert!(rt;
             text.as_slice() == row.2.as_bytes(),
             "the lines are not {}",
             row.2
         );
         let mut warning = Vec::new(rt.alloc());
-        print_attempts_warning(&coverage, &mut warning).expect(&rt, "memory for the warning");
+        let shown = AttemptsWarning {
+            coverage: &coverage,
+        };
+        print(shown, &mut warning).expect(&rt, "memory for the warning");
         assert!(rt;
             warning.as_slice() == row.3.as_bytes(),
             "the warning is not {}",

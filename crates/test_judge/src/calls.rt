@@ -1,9 +1,10 @@
 //! The figures of calls.
 
-use judge_coverage::{measure_calls, print_calls_coverage, print_calls_warning};
+use judge_coverage::{CallsWarning, measure_calls};
 use judge_object::{NEVER, Span};
 use std::alloc::Global;
 use std::process::Abort;
+use vac_lines::print;
 
 /// A call: its client, its BEGIN, and its END, or `None` for a pending call.
 pub(crate) type Call = (u32, u64, Option<u64>);
@@ -120,14 +121,17 @@ fn calls_have_these_figures(rt: HostRuntime) {
         let intervals = intervals_of(&rt, rt.alloc(), row.0);
         let coverage = measure_calls(rt.alloc(), intervals.as_slice()).expect(&rt, "memory");
         let mut text = Vec::new(rt.alloc());
-        print_calls_coverage(&coverage, &mut text).expect(&rt, "memory for the lines");
+        print(&coverage, &mut text).expect(&rt, "memory for the lines");
         assert!(rt;
             text.as_slice() == row.1.as_bytes(),
             "the lines are not {}",
             row.1
         );
         let mut warning = Vec::new(rt.alloc());
-        print_calls_warning(&coverage, &mut warning).expect(&rt, "memory for the warning");
+        let shown = CallsWarning {
+            coverage: &coverage,
+        };
+        print(shown, &mut warning).expect(&rt, "memory for the warning");
         assert!(rt;
             warning.as_slice() == row.2.as_bytes(),
             "the warning is not {}",

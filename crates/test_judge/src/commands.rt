@@ -3,7 +3,7 @@
 use judge_reservations::{Scope, task_part};
 use std::alloc::Global;
 use std::process::Abort;
-use vac_lines::{print_task, read_line};
+use vac_lines::{print, read_line};
 use vac_model::{Kind, Task};
 
 /// A task, its reply, and the part of both on a scope: a line, or nothing.
@@ -210,7 +210,7 @@ pub(crate) fn scope(rt: &impl Abort, alloc: Global, shut: bool) -> Scope {
 /// Returns a task with its reply as a line.
 fn line_of(rt: &impl Abort, alloc: Global, task: &Task, text: &[u8]) -> Vec<u8> {
     let mut line = Vec::new(alloc);
-    print_task(task, &mut line).expect(rt, "there is memory");
+    print(task, &mut line).expect(rt, "there is memory");
     line.extend_from_slice(b" -> ")
         .expect(rt, "there is memory");
     line.extend_from_slice(text).expect(rt, "there is memory");

@@ -1,11 +1,11 @@
 //! The part of a history, on a scope that the history gives.
 
 use judge_object::{Line, NEVER};
-use judge_reservations::{ValidTask, part_of_history, scope_of};
+use judge_reservations::{part_of_history, scope_of};
 use std::alloc::Global;
 use std::process::Abort;
-use vac_lines::{print_task, read_line};
-use vac_model::Kind;
+use vac_lines::{print, read_line};
+use vac_model::{Kind, ValidTask};
 
 /// A client, a begin, an end, a task, and its reply or a question mark for a pending call.
 type Row = (u32, u64, u64, &'static str, &'static str);
@@ -97,7 +97,7 @@ fn lines_of(rt: &impl Abort, alloc: Global, rows: &[Row]) -> Vec<Line<ValidTask>
 /// Returns the task and the reply of a line as a text.
 fn text_of(rt: &impl Abort, alloc: Global, line: &Line<ValidTask>) -> Vec<u8> {
     let mut text = Vec::new(alloc);
-    print_task(line.op.task(), &mut text).expect(rt, "there is memory");
+    print(line.op.task(), &mut text).expect(rt, "there is memory");
     text.extend_from_slice(b" -> ")
         .expect(rt, "there is memory");
     match &line.reply {

@@ -1,11 +1,9 @@
 //! The figures of the entries that pass a watched reader.
 
-use judge_coverage::{
-    Watched, print_attempts_coverage, print_attempts_warning, print_calls_coverage,
-    print_calls_warning,
-};
+use judge_coverage::{AttemptsWarning, CallsWarning, Watched};
 use std::io;
 use std::io::Read;
+use vac_lines::print;
 
 /// Largest number of bytes of a line of these logs.
 const LONGEST: usize = 40;
@@ -93,8 +91,11 @@ fn calls_that_pass_have_these_figures(rt: HostRuntime) {
             let read = watched.read_to_end(&mut bytes).expect(&rt, "the log");
             let coverage = watched.measure_calls().expect(&rt, "memory for the calls");
             let mut text = Vec::new(rt.alloc());
-            print_calls_coverage(&coverage, &mut text).expect(&rt, "memory for the lines");
-            print_calls_warning(&coverage, &mut text).expect(&rt, "memory for the warning");
+            print(&coverage, &mut text).expect(&rt, "memory for the lines");
+            let warning = CallsWarning {
+                coverage: &coverage,
+            };
+            print(warning, &mut text).expect(&rt, "memory for the warning");
             assert!(rt; read == row.0.len(), "bytes of {}", row.0);
             assert!(rt;
                 bytes.as_slice() == row.0.as_bytes(),
@@ -158,8 +159,11 @@ fn attempts_that_pass_have_these_figures(rt: HostRuntime) {
                 .measure_attempts()
                 .expect(&rt, "memory for the attempts");
             let mut text = Vec::new(rt.alloc());
-            print_attempts_coverage(&coverage, &mut text).expect(&rt, "memory for the lines");
-            print_attempts_warning(&coverage, &mut text).expect(&rt, "memory for the warning");
+            print(&coverage, &mut text).expect(&rt, "memory for the lines");
+            let warning = AttemptsWarning {
+                coverage: &coverage,
+            };
+            print(warning, &mut text).expect(&rt, "memory for the warning");
             assert!(rt; read == row.0.len(), "bytes of {}", row.0);
             assert!(rt;
                 bytes.as_slice() == row.0.as_bytes(),

@@ -5,13 +5,13 @@ use crate::same::{holds, same};
 use crate::scripts::add_command;
 use std::alloc::Global;
 use std::process::Abort;
-use vac_lines::{LINE_BYTES, LineFault, print_task, read_line};
+use vac_lines::{LINE_BYTES, LineFault, print, read_line};
 use vac_model::{Kind, Task};
 
 /// Returns the line of a task.
 fn line_of(rt: &impl Abort, alloc: Global, task: &Task) -> Vec<u8> {
     let mut line = Vec::new(alloc);
-    print_task(task, &mut line).expect(rt, "there is memory");
+    print(task, &mut line).expect(rt, "there is memory");
     line
 }
 

@@ -1,6 +1,6 @@
--- The texts that were appended before a call failed.
+-- Texts that extend others, and texts cut at their end.
 use Rattle.std.proofs.Common.{◌≡◌, ℕ, List, [], ◌∷◌, ◌++◌, length, take, refl, arith, ap, sym, ◌∙◌, Result, Ok, Err}
-use Rattle.std.proofs.Common.{OnOk, OnErr, append_assoc, min, drop, ◌-◌, length-drop}
+use Rattle.std.proofs.Common.{OnErr, min, drop, ◌-◌, length-drop}
 use Rattle.std.proofs.Common.{inl, inr}
 use Rattle.std.proofs.lemmas.List.{take_all, take-append-drop}
 use Rattle.std.proofs.lemmas.Bool.{cases_lt}
@@ -19,24 +19,12 @@ front_taken (x ∷ xs) zs (w ∷ ws) h =
     cc (front_taken xs zs ws tail, head)
 
 -- a list that extends a longer list extends the front of that list
-pub extends_front : (xs ys zs ws : List ℕ) → ys ≡ xs ++ zs → Extends ys ws → Extends xs ws
+extends_front : (xs ys zs ws : List ℕ) → ys ≡ xs ++ zs → Extends ys ws → Extends xs ws
 extends_front xs ys zs ws e h = front_taken xs zs ws (rw e at h)
 
 -- a list extends its front
 pub extends_more : (xs ys zs : List ℕ) → ys ≡ xs ++ zs → Extends xs ys
 extends_more xs ys zs e = rw e (take_front xs zs)
-
--- three texts, appended one after another
-pub three_appended : {T E : Type 0} (r : Result T E) (old a b new x y z : List ℕ) → a ≡ old ++ x → b ≡ a ++ y →
-    OnOk r (new ≡ b ++ z) → OnOk r (new ≡ old ++ (x ++ y ++ z))
-three_appended (Ok t) old a b new x y z e f g = simp (g, f, e, append_assoc)
-three_appended (Err t) old a b new x y z e f g = tt
-
--- two texts, appended one after another
-pub two_appended : {T E : Type 0} (r : Result T E) (old a new x y z : List ℕ) → a ≡ old ++ x → y ≡ z →
-    OnOk r (new ≡ a ++ y) → OnOk r (new ≡ old ++ (x ++ z))
-two_appended (Ok t) old a new x y z e f g = simp (g, f, e, append_assoc)
-two_appended (Err t) old a new x y z e f g = tt
 
 -- a fact that holds if a call failed
 pub on_err : {T E P : Type 0} (r : Result T E) → P → OnErr r P
@@ -60,15 +48,3 @@ pub extends_longer : (xs ys zs : List ℕ) → Extends xs ys → Extends xs (ys 
 extends_longer xs ys zs h = extends_front xs ys (drop (length xs) ys) (ys ++ zs)
     (sym (ap (λ t. t ++ drop (length xs) ys) (sym h) ∙ take-append-drop (length xs) ys))
     (extends_more ys (ys ++ zs) zs refl)
-
--- a call that fails after a text was appended leaves everything before that text
-pub err_behind : {T E : Type 0} (r : Result T E) (old a new x : List ℕ) → a ≡ old ++ x → OnErr r (Extends a new) →
-    OnErr r (Extends old new)
-err_behind (Ok t) old a new x e h = tt
-err_behind (Err f) old a new x e h = extends_front old a x new e h
-
--- a head and three texts, appended one after another
-pub four_appended : {T E : Type 0} (r : Result T E) (old a b d new h x y z p : List ℕ) → a ≡ old ++ h → b ≡ a ++ x →
-    d ≡ b ++ y → p ≡ x ++ (y ++ z) → OnOk r (new ≡ d ++ z) → OnOk r (new ≡ old ++ (h ++ p))
-four_appended (Ok t) old a b d new h x y z p e f k q g = simp (g, k, f, e, q, append_assoc)
-four_appended (Err t) old a b d new h x y z p e f k q g = tt

@@ -13,8 +13,9 @@ use Rattle.vac_model.specs.declared.tasks.Task.TheVariants as task
 use Rattle.vac_model.specs.Amounts.{is_id, is_amount, is_optional_amount, is_unit_count, is_list_length}
 use Rattle.vac_model.specs.Amounts.{has_deletable_units}
 use Rattle.vac_model.specs.Ranges.{is_change, is_command, is_task}
-use Rattle.vac_lines.specs.TaskText.{kind_word, price_word, units_words, command_words, further_words, changes_words}
-use Rattle.vac_lines.specs.TaskText.{task_words, task_text, spaced, words_text, is_short, is_short_price}
+use Rattle.vac_model.specs.TaskText.{kind_word, price_word, units_words, command_words, further_words, changes_words}
+use Rattle.vac_lines.specs.TaskText.{is_short, is_short_price}
+use Rattle.vac_model.specs.TaskText.{task_words, task_text, spaced, words_text}
 use Rattle.vac_lines.specs.TaskText.{is_short_change, is_fitting}
 use Rattle.vac_lines.proofs.TaskReading.{both, small_id, small_amount, small_units, few_parts, ask_words, has_id}
 use Rattle.vac_lines.proofs.TaskReading.{is_good_change}

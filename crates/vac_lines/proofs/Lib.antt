@@ -1,4 +1,3 @@
-pub mod Appending
 pub mod Asking
 pub mod Digits
 pub mod Trips
@@ -14,3 +13,4 @@ pub mod Written
 pub mod LineCuts
 pub mod Telling
 pub mod Texts
+pub mod Formatting

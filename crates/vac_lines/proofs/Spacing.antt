@@ -9,7 +9,7 @@ use Rattle.std.proofs.lemmas.List.Splits.{slice_split_at, slice_split_none}
 use Rattle.std.proofs.Common.{eqb}
 use Rattle.vac_lines.specs.Lines.{words_of}
 use Rattle.vac_lines.specs.LineTable.{is_bad_byte}
-use Rattle.vac_lines.specs.TaskText.{spaced, words_text}
+use Rattle.vac_model.specs.TaskText.{spaced, words_text}
 use Rattle.vac_lines.proofs.Decimals.{is_word_byte}
 
 -- every element has the property

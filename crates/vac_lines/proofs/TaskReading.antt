@@ -20,8 +20,8 @@ use Rattle.vac_lines.specs.Words.{is_separator}
 use Rattle.vac_lines.specs.LineTable.{add_line, del_line, at_kind, at_id, at_amount, at_price, at_units, read_each}
 use Rattle.vac_lines.specs.LineTable.{asks_of, change_line, cut_parts, update_line, words_task, reserve_line}
 use Rattle.vac_lines.specs.LineTable.{one_command}
-use Rattle.vac_lines.specs.TaskText.{kind_word, item_words, price_word, units_words, command_words, further_words}
-use Rattle.vac_lines.specs.TaskText.{changes_words, task_words}
+use Rattle.vac_model.specs.TaskText.{kind_word, item_words, price_word, units_words, command_words, further_words}
+use Rattle.vac_model.specs.TaskText.{changes_words, task_words}
 use Rattle.vac_lines.proofs.Decimals.{number_read, number_no_dash, number_no_separator, number_in_word}
 use Rattle.vac_lines.proofs.Spacing.{Each, each_all, each_both, IsPlain}
 

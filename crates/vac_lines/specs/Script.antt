@@ -6,7 +6,8 @@ use Rattle.vac_model.specs.declared.tasks.Task.{Task}
 use Rattle.vac_lines.specs.declared.fault.LineFault.{LineFault}
 use Rattle.vac_lines.specs.Lines.{lines_of}
 use Rattle.vac_lines.specs.LineTable.{line_task}
-use Rattle.vac_lines.specs.Text.{reply_text, fault_text}
+use Rattle.vac_lines.specs.Text.{fault_text}
+use Rattle.vac_model.specs.ReplyText.{reply_text}
 
 -- a text as an output line
 abbrev pub as_line : List ℕ → List ℕ

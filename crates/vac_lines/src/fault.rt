@@ -1,5 +1,8 @@
 //! The faults of a line.
 
+ghost use Rattle.std.specs.Prelude.{◌≡◌};
+ghost use Rattle.vac_lines.specs.Text.{fault_name};
+
 use thiserror::Error;
 
 /// The reason why a line has no task, in the order in which faults are looked for. No code reads
@@ -27,4 +30,21 @@ pub enum LineFault {
     /// Memory was refused for reading the line, which is no fault of the line.
     #[error("out of memory")]
     Memory = 7,
+}
+
+impl LineFault {
+    /// Returns the name of the fault, as an output has it.
+    pub fn name(self) -> &'static str
+        ensures { result.now ≡ fault_name self }
+    {
+        match self {
+            LineFault::LongLine => "long-line",
+            LineFault::BadByte => "bad-byte",
+            LineFault::BadCommand => "bad-command",
+            LineFault::BadCount => "bad-count",
+            LineFault::BadKind => "bad-kind",
+            LineFault::BadNumber => "bad-number",
+            LineFault::Memory => "memory",
+        }
+    }
 }

@@ -1,6 +1,7 @@
-//! The script language of the reservation system: lines of bytes as tasks, replies as text, and
-//! the words of a memory as text. Input from a stream is cut into lines, which are passed to a
-//! sink, and output is gathered and written in chunks.
+//! The script language of the reservation system: reading lines of bytes as tasks, and printing.
+//! `print` and `append` put the text that a value's `Display` writes into a buffer. Input from a
+//! stream is cut into lines, which are passed to a sink, and output is gathered and written in
+//! chunks.
 //!
 //! The definitions in `specs/` include the output of a whole script and the state that it leaves.
 #![tactic(auto)]
@@ -17,8 +18,8 @@ mod lists;
 mod names;
 mod next;
 mod numbers;
+mod printing;
 mod reading;
-mod reply;
 mod sending;
 mod sink;
 mod stream_fault;
@@ -33,13 +34,10 @@ pub use limits::{CHUNK_BYTES, MOST_READS};
 pub use line::{LINE_BYTES, has_bad_byte, read_line};
 pub use next::Next;
 pub use numbers::read_memory_word;
+pub use printing::{append, is_text_of, print};
 pub use reading::{MOST_LINES, read_lines};
-pub use reply::{
-    append_field, is_right, is_text_of, keep_whole, print_fault, print_reply, print_word,
-    refusal_name,
-};
 pub use sending::{send_all, send_chunk, send_rest};
 pub use sink::Sink;
 pub use stream_fault::StreamFault;
-pub use task_text::{print_task, task_texts_are_read, task_texts_fit};
+pub use task_text::{task_texts_are_read, task_texts_fit};
 pub use writing::{NotWritten, write_all, write_and_flush};

@@ -16,3 +16,4 @@ pub mod TasksKept
 pub mod Refused
 pub mod Totals
 pub mod Settled
+pub mod TaskLines

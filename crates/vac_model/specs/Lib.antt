@@ -8,3 +8,5 @@ pub mod Fits
 pub mod Laws
 pub mod Code
 pub mod Coded
+pub mod ReplyText
+pub mod TaskText

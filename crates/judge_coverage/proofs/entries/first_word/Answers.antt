@@ -1,5 +1,4 @@
 use Rattle.std.proofs.Common.{[]}
-use Rattle.vac_lines.specs.Lines.{words_of}
 use Rattle.judge_coverage.proofs.Heads.{first_word, last_word}
 use Rattle.judge_coverage.proofs.entries.first_word.Goals as goal
 

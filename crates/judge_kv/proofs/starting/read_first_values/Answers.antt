@@ -1,6 +1,6 @@
 use Rattle.std.proofs.Common.{subst}
 use Rattle.judge_kv.specs.Starting.{IsFirstRead, line_first}
-use Rattle.judge_kv.proofs.Firsts.{firsts_none, first_more, first_fault, firsts_all}
+use Rattle.judge_kv.proofs.Firsts.{first_more, first_fault}
 use Rattle.judge_kv.proofs.starting.read_first_values.Goals as goal
 
 pub returns-in-Err : goal.returns-in-Err

@@ -4,11 +4,11 @@ use Rattle.judge_linear.specs.Reading.{WasReadAs}
 use Rattle.judge_linear.proofs.Founds.{text_wrong}
 use Rattle.judge_linear.proofs.ordering.find_text.Goals as goal
 
-pub returns-in_ok-print_verdict-in-Wrong-clause-found : goal.returns-in_ok-print_verdict-in-Wrong-clause-found
-returns-in_ok-print_verdict-in-Wrong-clause-found g c =
+pub returns-in_ok-print-in-Wrong-clause-found : goal.returns-in_ok-print-in-Wrong-clause-found
+returns-in_ok-print-in-Wrong-clause-found g c =
     text_wrong c.args.how.level c.args.how.blocks c.args.how.steps (g.R.Read.remaining c.args.input.now)
-    (g.R.Read.remaining c.read_history.new.input) c.in-Wrong.verdict c.print_verdict.new.out.items
+    (g.R.Read.remaining c.read_history.new.input) c.in-Wrong.verdict c.print.new.out.items
     (subst (WasReadAs (g.R.Read.remaining c.args.input.now) (g.R.Read.remaining c.read_history.new.input)) c.in-Wrong.is
     c.in_ok-history.ensures.read)
-    (c.in_ok-print_verdict-in-Wrong.ensures.ok ∙ ap (λ t. t ++ verdict_text c.in-Wrong.verdict)
+    (c.in_ok-print-in-Wrong.ensures.ok ∙ ap (λ t. t ++ verdict_text c.in-Wrong.verdict)
     c.new-text.ensures.items)

@@ -1,13 +1,9 @@
-use Rattle.std.proofs.Common.{◌<◌, ◌++◌, Result, Ok, Err, length, ap, ◌∙◌, subst}
-use Rattle.std.specs.Prelude.{All, IfOk}
-use Rattle.std.proofs.lemmas.List.{length-map}
-use Rattle.judge_search.specs.declared.stuck.Stuck.{Stuck}
-use Rattle.judge_search.specs.Calls.{call_of}
+use Rattle.std.proofs.Common.{◌++◌, Result, Ok, Err, ap, ◌∙◌, subst}
+use Rattle.std.specs.Prelude.{IfOk}
 use Rattle.judge_linear.specs.Judged.{IsJudged, HasFoundOrder}
 use Rattle.judge_linear.specs.Reading.{numbers_of}
 use Rattle.judge_linear.specs.Found.{part_text, told_by}
 use Rattle.vac_model.specs.State.{empty_state}
-use Rattle.vac_model.specs.declared.replies.Reply.{Reply}
 use Rattle.judge_linear.proofs.Founds.{finds_part}
 use Rattle.judge_linear.proofs.ordering.print_finding.Goals as goal
 
@@ -21,24 +17,19 @@ returns-in-Whole-clause-text c = if_ok (λ outcome h want lines n given left byt
     (subst (IsJudged (empty_state n) c.args.ordered.now.calls left) c.in-Whole.is j) read before none)
     c.print_whole.result c.print_whole.ensures.text
 
-pub returns-in_ok-print_illegal_part-in-Part-clause-text : goal.returns-in_ok-print_illegal_part-in-Part-clause-text
-returns-in_ok-print_illegal_part-in-Part-clause-text c = λ want lines n given left bytes few k j read before none.
+pub returns-in_ok-print-in-Part-clause-text : goal.returns-in_ok-print-in-Part-clause-text
+returns-in_ok-print-in-Part-clause-text c = λ want lines n given left bytes few k j read before none.
     let part = c.in-Part.part in
     let blocked = part.wrong.part in
-    let sorted = blocked.calls.lines.items in
-    let h = subst (IsJudged (empty_state n) c.args.ordered.now.calls left) c.in-Part.is j in
-    let within : All (λ (one : Stuck Reply). one.place < length sorted) blocked.stuck.items =
-    subst (λ m. All (λ (one : Stuck Reply). one.place < m) blocked.stuck.items) (length-map sorted call_of)
-    h.wrong.none.are.within in
     finds_part want lines c.args.ordered.now.calls.lines.items k bytes read n given left part
-    c.print_illegal_part.new.out.items few before h
-    (c.in_ok-print_illegal_part-in-Part.ensures within
+    c.print.new.out.items few before (subst (IsJudged (empty_state n) c.args.ordered.now.calls left) c.in-Part.is j)
+    (c.in_ok-print-in-Part.ensures.ok
     ∙ ap (λ t. t ++ part_text part.wrong.line part.scope.customers.items part.scope.items.items
-    (told_by (numbers_of sorted) blocked.stuck.items) part.wrong.states) none)
+    (told_by (numbers_of blocked.calls.lines.items) blocked.stuck.items) part.wrong.states) none)
 
 pub returns-in-Whole-clause-order : goal.returns-in-Whole-clause-order
 returns-in-Whole-clause-order c = if_ok (λ outcome h f. h (subst HasFoundOrder c.in-Whole.is f)) c.print_whole.result
     c.print_whole.ensures.order
 
-pub returns-in_ok-print_illegal_part-in-Part-clause-order : goal.returns-in_ok-print_illegal_part-in-Part-clause-order
-returns-in_ok-print_illegal_part-in-Part-clause-order c = λ f. absurd (subst HasFoundOrder c.in-Part.is f)
+pub returns-in_ok-print-in-Part-clause-order : goal.returns-in_ok-print-in-Part-clause-order
+returns-in_ok-print-in-Part-clause-order c = λ f. absurd (subst HasFoundOrder c.in-Part.is f)

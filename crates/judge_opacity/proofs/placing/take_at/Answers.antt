@@ -1,4 +1,4 @@
-use Rattle.std.proofs.Common.{◌≡◌, None, sym, ap, ◌∙◌, subst, ◌∷◌}
+use Rattle.std.proofs.Common.{◌≡◌, None, sym, ap, subst, ◌∷◌}
 use Rattle.judge_opacity.specs.Parts.{attempt_of}
 use Rattle.judge_opacity.specs.Attempt.{Attempt}
 use Rattle.judge_opacity.specs.declared.logged.Logged.{Logged}

@@ -3,7 +3,7 @@ use Rattle.std.proofs.lemmas.Result.{IfOk-weaker}
 use Rattle.judge_calls.specs.Laws.{Lists}
 use Rattle.judge_reservations.specs.Lines.{calls_of}
 use Rattle.judge_part_text.specs.Reading.{IsReadingOf}
-use Rattle.judge_part_text.proofs.Parts.{whole_text, damage_text}
+use Rattle.judge_part_text.proofs.Parts.{whole_text}
 use Rattle.judge_part_text.proofs.parting.find_text.Goals as goal
 
 pub returns-in-Whole : goal.returns-in-Whole
@@ -12,9 +12,3 @@ returns-in-Whole c =
     (subst (IsReadingOf c.args.bytes.now) c.in-Whole.is c.in_ok-reading.ensures) in
     IfOk-weaker c.text_of_calls.result _ _
     (λ found h. whole_text _ _ c.args.bytes.now _ found.0 found.1.items listed h) c.text_of_calls.ensures
-
-pub returns-in_ok-print_verdict-in-Damaged : goal.returns-in_ok-print_verdict-in-Damaged
-returns-in_ok-print_verdict-in-Damaged c =
-    damage_text _ _ c.args.bytes.now c.in-Damaged.line c.in-Damaged.fault _ _
-    (subst (IsReadingOf c.args.bytes.now) c.in-Damaged.is c.in_ok-reading.ensures) c.new-text.ensures.items
-    c.in_ok-print_verdict-in-Damaged.ensures.ok

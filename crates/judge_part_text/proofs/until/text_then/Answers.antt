@@ -1,4 +1,4 @@
-use Rattle.std.proofs.Common.{◌+◌, ◌++◌, ◌∙◌, ℕ, List, not, ap, sym, subst}
+use Rattle.std.proofs.Common.{◌≡◌, ◌+◌, ◌∙◌, not, ap, sym, subst, rules}
 use Rattle.std.specs.Prelude.{MatchOption}
 use Rattle.std.specs.List.{position}
 use Rattle.judge_object.specs.Cut.{cut}
@@ -39,9 +39,6 @@ returns c =
     c.in_ok-scope.ensures
     (ap (position (λ line. not (had_part scope c.args.moment (call_of line)))) (sym c.as_slice.ensures.value)
     ∙ sym c.first_without-first.ensures ∙ c.in-Some-first.is) in
-    let line = c.in-Some-first.place + 1 in (
-      line,
-      first,
-      c.in_ok-print_no_part-in-Some-first.ensures
-          ∙ ap (λ (t : List ℕ). t ++ no_part_text line) c.new-text.ensures.items,
-    )
+    let line = c.in-Some-first.place + 1 in
+    let text : c.print.new.out.items ≡ no_part_text line = search rules in
+    (line, first, text)

@@ -1,6 +1,6 @@
 use Rattle.std.proofs.Common.{◌≡◌, ◌++◌, take}
 use Rattle.vac_lines.specs.Lines.{texts}
-use Rattle.vac_lines.specs.TaskText.{spaced}
+use Rattle.vac_model.specs.TaskText.{spaced}
 use Rattle.judge_reservations.proofs.words.join_words.Given as goal
 
 -- the words so far

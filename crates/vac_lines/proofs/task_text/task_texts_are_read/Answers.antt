@@ -1,7 +1,7 @@
 use Rattle.std.proofs.Common.{ap, ◌∙◌, length}
 use Rattle.std.proofs.lemmas.Bool.{le-ltb}
 use Rattle.vac_lines.specs.LineTable.{words_task}
-use Rattle.vac_lines.specs.TaskText.{task_words, task_text}
+use Rattle.vac_model.specs.TaskText.{task_words, task_text}
 use Rattle.vac_lines.proofs.Spacing.{words_cut, words_clean}
 use Rattle.vac_lines.proofs.TaskReading.{words_read, words_plain, task_some}
 use Rattle.vac_lines.proofs.task_text.task_texts_are_read.Goals as goal

@@ -2,7 +2,7 @@ use Rattle.std.proofs.Common.{rules, ◌≡◌, ◌≤◌, true, length, vec_len
 use Rattle.load_tasks.specs.Setting.{is_settings}
 use Rattle.load_run.specs.declared.load.LoadFault.TheVariants as load
 use Rattle.load_run.specs.Keeping.{contents}
-use Rattle.cli_main.specs.declared.stats.LoadSummary.{LoadSummary}
+use Rattle.load_run.specs.declared.summary.LoadSummary.{LoadSummary}
 use Rattle.cli_main.proofs.Kept.{noted, same_clients}
 use Rattle.cli_main.proofs.LoadEnds.{ended_for_memory, ended_kept, ended_by_fault, few_clients, reports_nothing}
 use Rattle.cli_main.proofs.Ledgers.{not_refused}

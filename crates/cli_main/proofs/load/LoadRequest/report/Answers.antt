@@ -1,7 +1,7 @@
 use Rattle.std.proofs.Common.{rules, ◌≡◌, true, vec_len}
 use Rattle.load_tasks.specs.Setting.{is_settings}
 use Rattle.load_run.specs.declared.load.LoadFault.TheVariants as load
-use Rattle.cli_main.specs.declared.stats.LoadSummary.{LoadSummary}
+use Rattle.load_run.specs.declared.summary.LoadSummary.{LoadSummary}
 use Rattle.cli_main.specs.Load.{WroteLoad, WroteLoadInPart}
 use Rattle.cli_main.proofs.LoadEnds.{ended_for_memory, ended_kept, ended_by_fault, written_lines, reports_nothing}
 use Rattle.cli_main.proofs.Ledgers.{not_refused}

@@ -5,4 +5,4 @@ pub loop-init : goal.loop-init
 loop-init g c = no_line
 
 pub loop-preserved-then-has_passed : goal.loop-preserved-then-has_passed
-loop-preserved-then-has_passed g c = one_more c.load-answered.result c.loop.invariant c.write_line.ensures
+loop-preserved-then-has_passed g c = one_more c.load-answered.result c.loop.invariant c.write_progress.ensures

@@ -1,4 +1,4 @@
-use Rattle.std.proofs.Common.{◌≡◌, ◌<◌, [], length, rules}
+use Rattle.std.proofs.Common.{◌≡◌, ◌<◌, length, rules}
 use Rattle.std.proofs.lemmas.List.{nil_from_length}
 use Rattle.vac_lines.proofs.Texts.{on_ok_map}
 use Rattle.judge_coverage.proofs.Taking.{taken_all, taken_last}

@@ -1,4 +1,4 @@
-use Rattle.judge_coverage.proofs.Taking.{taken_first, taken_line, taken_rest}
+use Rattle.judge_coverage.proofs.Taking.{taken_line, taken_rest}
 use Rattle.judge_coverage.proofs.collector.Collector.feed.Goals as goal
 
 pub lines-preserved : goal.lines-preserved
