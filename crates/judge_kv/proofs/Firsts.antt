@@ -1,16 +1,15 @@
 -- The first values of keys, line by line.
-use Rattle.std.proofs.Common.{◌≡◌, ℕ, ◌+◌, ◌<◌, ◌≤◌, true, false, cond, is_some, Some, None, Ok, Err, List, []}
+use Rattle.std.proofs.Common.{◌≡◌, ℕ, ◌+◌, ◌<◌, ◌≤◌, true, false, cond, is_some, Some, Ok, Err, List}
 use Rattle.std.proofs.Common.{◌∷◌}
-use Rattle.std.proofs.Common.{length, refl, sym, ap, ◌∙◌, inl, inr, arith}
+use Rattle.std.proofs.Common.{length, sym, ap, ◌∙◌, inl, inr, arith}
 use Rattle.vac_lines.specs.Lines.{lines_of, words_of}
 use Rattle.judge_text.specs.Many.{changed}
 use Rattle.judge_text.proofs.OfOne.{named, changed_here, changed_not}
-use Rattle.judge_text.proofs.Cutting.{lines_none}
 use Rattle.judge_kv.specs.declared.starting.StartFault.{StartFault}
 use Rattle.judge_kv.specs.declared.starting.StartFault.TheVariants.{KeyTwice}
 use Rattle.judge_kv.specs.Rules.{Held}
 use Rattle.judge_kv.specs.Starting.{First, value_at_first, words_first, once, line_first, then_firsts}
-use Rattle.judge_kv.specs.Starting.{lines_firsts, text_firsts, BeginWith, IsStartOf}
+use Rattle.judge_kv.specs.Starting.{lines_firsts, text_firsts, BeginWith}
 
 -- the first values of the lines so far, and what is left of a text
 pub record HasFirsts (text : List ℕ) (s : List ℕ → Held) (number : ℕ) (rest : List ℕ) : Type 0 where
