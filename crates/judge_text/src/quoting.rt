@@ -80,6 +80,7 @@ impl Display for Quoted<'_> {
     ghost output = { λ word. Some (quoted word.bytes.now) };
 
     fn fmt<W: fmt::Write>(&self, f: &mut Formatter<W>) -> fmt::Result {
+        // In one piece: each piece costs the formatter more than many bytes do.
         if let Some(text) = plain_text(self.bytes) {
             return write!(f, "\"{text}\"");
         }

@@ -51,8 +51,8 @@ impl Display for LoadReport {
     }
 }
 
-/// A name and its number. The statistics are made of these because the prover shows the text of a
-/// format with up to three numbers, and that of more values of a type with a text of its own.
+/// A name and its number, as a value with a text of its own. The prover shows the text of a format
+/// of many such values, but of at most three numbers.
 #[derive(Clone, Copy)]
 struct Field<'a> {
     name: &'a str,
