@@ -56,7 +56,8 @@ fn cut_calls(
 }
 
 /// Searches, in at most `steps` steps, for a linearization of some calls as they stood at a moment.
-/// Returns these calls if there is none.
+/// Returns these calls if the search shows that there is none, and `None` if there is one or the
+/// steps do not decide.
 fn cut_without_order<P: Watcher>(
     alloc: Global,
     calls: &Calls<ValidTask>,
@@ -75,6 +76,9 @@ fn cut_without_order<P: Watcher>(
         return Ok(None);
     };
     let stuck = stuck_calls(alloc, &part, point)?;
+    // For the clause, which promises a blocked call. The list is never empty: of the completed
+    // calls that are left, the one that ended first may come next. No clause of `stuck_calls` says
+    // so.
     if stuck.is_empty() {
         return Ok(None);
     }
@@ -94,8 +98,9 @@ fn end_of(lines: &[Line<ValidTask>], place: usize) -> Option<u64>
     if end < NEVER { Some(end as u64) } else { None }
 }
 
-/// As [`cut_without_order`], for the moment at which the call at a position ended. Returns `None`
-/// if the call is pending.
+/// Searches, in at most `steps` steps, for a linearization of some calls as they stood at the end
+/// of the call at a position. Returns these calls if the search shows that there is none, and
+/// `None` if there is one, the steps do not decide, or the call at the position is pending.
 fn cut_at_end<P: Watcher>(
     alloc: Global,
     calls: &Calls<ValidTask>,

@@ -17,9 +17,10 @@ use std::alloc::{AllocError, Global};
 use vac_model::ValidTask;
 use vac_model::limits::MOST_BLOCKS;
 
-/// Largest number of proposed scopes whose parts are checked, and of steps of each check.
+/// Largest number of proposed scopes whose parts are checked.
 const MOST_CHECKS: u64 = 4;
 
+/// Largest number of steps of each exact search of a part.
 const MOST_STEPS: u64 = 1_000_000;
 
 /// A part of a history that has no order.
@@ -71,8 +72,9 @@ fn part_without_order<P: Watcher>(
     }
 }
 
-/// Returns the part of a history on the scope of these names, if an exact search of the part in at
-/// most `steps` steps shows that the part has no order.
+/// Returns the part of a history on the scope of these names, if exact searches show that the part
+/// has no order. The part is searched once for each end that is tried, each time in at most `steps`
+/// steps.
 fn checked_part<P: Watcher>(
     alloc: Global,
     calls: &Calls<ValidTask>,
@@ -91,8 +93,8 @@ fn checked_part<P: Watcher>(
 }
 
 /// Searches for a part of a history that has no order, among the parts on a few proposed scopes.
-/// The search of a part that is checked makes at most `steps` steps, and at most [`MOST_STEPS`].
-/// With no steps no scope is proposed.
+/// A part that is checked is searched once for each end that is tried, each time in at most `steps`
+/// steps, and at most [`MOST_STEPS`]. With no steps no scope is proposed.
 ///
 /// Not said: that a part is found if there is one.
 pub(crate) fn find_illegal_part<P: Watcher>(

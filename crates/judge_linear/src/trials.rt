@@ -8,9 +8,10 @@ use judge_reservations::{Names, Reservations, Scope, fits, part_of_history};
 use std::alloc::{AllocError, Global};
 use vac_model::{Command, Kind, Task, ValidTask};
 
-/// Number of steps of a search for each call of a part, and the number of further steps.
+/// Number of steps of a quick search of a part for each call of the part.
 const STEPS_FOR_CALL: u64 = 64;
 
+/// Number of steps of a quick search of a part besides those for its calls.
 const MORE_STEPS: u64 = 4_096;
 
 /// The history that is tried: its lines in the order in which they ended, the lines that name each
