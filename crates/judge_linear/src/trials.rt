@@ -47,7 +47,20 @@ fn push_customer(task: &Task, customers: &mut Vec<u32>) -> Result<(), AllocError
         Task::Trip { customer, .. } | Task::One(Command::Reserve { customer, .. }) => {
             push_new(customers, *customer)
         }
-        _ => Ok(()),
+        Task::One(
+            Command::Add { .. }
+            | Command::Delete { .. }
+            | Command::DropFlight { .. }
+            | Command::NewCustomer { .. }
+            | Command::DropCustomer { .. }
+            | Command::Free { .. }
+            | Command::Price { .. }
+            | Command::Bill { .. }
+            | Command::Cancel { .. }
+            | Command::Audit,
+        )
+        | Task::Leave { .. }
+        | Task::Update { .. } => Ok(()),
     }
 }
 
@@ -63,7 +76,19 @@ fn push_items(task: &Task, items: &mut Vec<(Kind, u32)>) -> Result<(), AllocErro
         Task::One(Command::Reserve { kind, id, .. } | Command::Cancel { kind, id, .. }) => {
             push_new(items, (*kind, *id))
         }
-        _ => Ok(()),
+        Task::One(
+            Command::Add { .. }
+            | Command::Delete { .. }
+            | Command::DropFlight { .. }
+            | Command::NewCustomer { .. }
+            | Command::DropCustomer { .. }
+            | Command::Free { .. }
+            | Command::Price { .. }
+            | Command::Bill { .. }
+            | Command::Audit,
+        )
+        | Task::Leave { .. }
+        | Task::Update { .. } => Ok(()),
     }
 }
 
