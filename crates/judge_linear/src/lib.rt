@@ -26,5 +26,5 @@ pub use laws::{
     an_outcome_decides_the_level, the_first_wrong_line_is_written,
     where_none_is_found_there_is_none,
 };
-pub use ordering::{Outcome, STEPS, order_history};
+pub use ordering::{Outcome, order_history};
 pub use settings::Settings;

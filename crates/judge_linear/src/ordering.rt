@@ -31,9 +31,6 @@ use vac_lines::{StreamFault, print, write_and_flush};
 use vac_model::ValidTask;
 use vac_model::limits::MOST_BLOCKS;
 
-/// Largest number of steps of each search, if the command line gives none.
-pub const STEPS: u64 = 10_000_000;
-
 /// The kind of result that was written for a history.
 #[derive(Clone, Copy, Debug, PartialEq, Eq)]
 pub enum Outcome {
