@@ -25,9 +25,9 @@ use Rattle.judge_search.specs.Sorting.{AreSortOf}
 use Rattle.judge_search.specs.Walk.{InTurn, IsWhole}
 use Rattle.judge_search.proofs.Judged.{whole_kept}
 use Rattle.judge_linear.specs.declared.history.History.{History}
-use Rattle.judge_linear.specs.declared.order.Judged.{Judged}
-use Rattle.judge_linear.specs.declared.order.Judged.TheVariants as judged
-use Rattle.judge_linear.specs.declared.order.Ordered.{Ordered}
+use Rattle.judge_linear.specs.declared.order.SearchResult.{SearchResult}
+use Rattle.judge_linear.specs.declared.order.SearchResult.TheVariants as judged
+use Rattle.judge_linear.specs.declared.order.SearchedCalls.{SearchedCalls}
 use Rattle.judge_linear.specs.declared.ordering.Outcome.{Outcome}
 use Rattle.judge_linear.specs.declared.ordering.Outcome.TheVariants as outcome
 use Rattle.judge_linear.specs.Found.{FoundOfText, Wrong, Order, NoOrder, IllegalPart, Undecided, IsFound}
@@ -59,8 +59,8 @@ given_whole history calls held merges =
     whole_kept reserving (calls_of history.lines.items) (calls_of calls.lines.items) (merges held.turn)
     (record { turn = held.turn; last = 2 ^ 64 - 1; timed = held.timed })
 
-pub given_judged : (history : History) (calls : Calls Task) (s : State) (steps : ℕ) (j : Judged) → IsHeld history →
-    AreSortOf history.lines.items calls.lines.items →
+pub given_judged : (history : History) (calls : Calls Task) (s : State) (steps : ℕ) (j : SearchResult) →
+    IsHeld history → AreSortOf history.lines.items calls.lines.items →
     (InTurn (calls_of history.lines.items) →
     IsMerge (calls_of history.lines.items) (calls_of calls.lines.items)) → IsJudged s calls steps j →
     IsJudgedAs level.Linearizable s history.lines.items steps (record { calls = calls; judged = j })
@@ -84,8 +84,8 @@ module _ (want : Level) (n steps bound : ℕ) (history : History) (held : IsHeld
   kept : AreKeptLines lines calls.lines.items
   kept = kept_lines lines calls.lines.items held.numbered (merges held.turn) sort
 
-  searched : HasSearched (empty_state n) lines found.steps
-  searched = record { sorted = calls.lines.items; are_kept = kept; run = f.run }
+  has_searched : HasSearched (empty_state n) lines found.steps
+  has_searched = record { sorted = calls.lines.items; are_kept = kept; run = f.run }
 
   relaxed_sort : AreRelaxed want lines (freed_lines want calls.lines.items)
   relaxed_sort = record {
@@ -104,12 +104,12 @@ module _ (want : Level) (n steps bound : ℕ) (history : History) (held : IsHeld
   as_made = record { within = omega arith; run = f.run; finds = f.finds; spent = λ u. refl }
 
   pub first_found : IsOrder found.finding →
-      IsJudgedBelow want (empty_state n) lines steps (record { calls = calls; judged = judged.Whole found })
+      IsJudgedBelow want (empty_state n) lines steps (record { calls = calls; judged = judged.AllCalls found })
   first_found order = record {
     given = found.steps;
     left = steps - found.steps;
     together = together;
-    searched = searched;
+    before = has_searched;
     sorted = freed_lines want calls.lines.items;
     relaxed = relaxed_sort;
     judged = inl (record { relaxed = as_given lines calls.lines.items kept; judged = as_made }, order);
@@ -136,23 +136,23 @@ module _ (want : Level) (n steps bound : ℕ) (history : History) (held : IsHeld
           (relaxed_kept want lines calls.lines.items r.relaxed held.numbered sort kept r.are) r.same (r.merges turn);
     }
 
-    pub below_judged : (j : Judged) → IsJudged (empty_state n) others (steps - found.steps) j →
+    pub below_judged : (j : SearchResult) → IsJudged (empty_state n) others (steps - found.steps) j →
         IsJudgedBelow want (empty_state n) lines steps (record { calls = others; judged = j })
     below_judged j is = record {
       given = found.steps;
       left = steps - found.steps;
       together = together;
-      searched = searched;
+      before = has_searched;
       sorted = freed_lines want calls.lines.items;
       relaxed = relaxed_sort;
       judged = inr (record { relaxed = relaxed_others; judged = is });
     }
 
-pub at_below : (want : Level) (s : State) (calls : List (Line Task)) (steps : ℕ) (ordered : Ordered) →
-    want ≢ level.Linearizable → IsJudgedBelow want s calls steps ordered → IsJudgedAt want s calls steps ordered
-at_below level.Linearizable s calls steps ordered below h = absurd (below refl)
-at_below level.Sequential s calls steps ordered below h = h
-at_below level.Serializable s calls steps ordered below h = h
+pub at_below : (want : Level) (s : State) (calls : List (Line Task)) (steps : ℕ) (searched : SearchedCalls) →
+    want ≢ level.Linearizable → IsJudgedBelow want s calls steps searched → IsJudgedAt want s calls steps searched
+at_below level.Linearizable s calls steps searched below h = absurd (below refl)
+at_below level.Sequential s calls steps searched below h = h
+at_below level.Serializable s calls steps searched below h = h
 
 -- ---- what is found of the text
 
@@ -182,12 +182,12 @@ order_below want n steps given bytes text runs f = go f.found f.is f.answered f.
 
 module _ (n steps : ℕ) (history : History) (held : IsHeld history) (few : n ≤ MOST_BLOCKS) (bytes : List ℕ)
     (texts : texts_of history.lines.items ≡ lines_of bytes) (listed : Lists bytes (calls_of history.lines.items))
-    (right : first_wrong bytes ≡ None) (ordered : Ordered) (result : Outcome) (text : List ℕ)
+    (right : first_wrong bytes ≡ None) (searched : SearchedCalls) (result : Outcome) (text : List ℕ)
     (prints : (kept : Level) (lines : List (Line Task)) (n given left : ℕ) (bytes : List ℕ) → n ≤ MOST_BLOCKS →
-    AreKeptLines lines ordered.calls.lines.items → IsJudged (empty_state n) ordered.calls left ordered.judged →
+    AreKeptLines lines searched.calls.lines.items → IsJudged (empty_state n) searched.calls left searched.judged →
     (read : IsReadAt kept bytes lines) → RunsBefore kept n bytes read.calls given →
     FindsText kept n (given + left) bytes result text)
-    (order : HasFoundOrder ordered.judged → result ≡ outcome.Ordered) where
+    (order : HasFoundOrder searched.judged → result ≡ outcome.Ordered) where
   abbrev all : List (Line Task)
   all = history.lines.items
 
@@ -201,12 +201,12 @@ module _ (n steps : ℕ) (history : History) (held : IsHeld history) (few : n �
     are = r.calls;
   }
 
-  told_given : (left : ℕ) → IsJudgedAs level.Linearizable (empty_state n) all left ordered →
+  told_given : (left : ℕ) → IsJudgedAs level.Linearizable (empty_state n) all left searched →
       FindsText level.Linearizable n left bytes result text
   told_given left h =
       subst (λ m. FindsText level.Linearizable n m bytes result text) (omega arith)
       (prints level.Linearizable h.relaxed.relaxed n 0 left bytes few h.relaxed.are_kept h.judged
-      (read_at level.Linearizable ordered.calls.lines.items h.relaxed) refl)
+      (read_at level.Linearizable searched.calls.lines.items h.relaxed) refl)
 
   runs_given : (given : ℕ) → HasSearched (empty_state n) all given → RunsGiven n bytes (calls_of all) given
   unfolding as_given read_at
@@ -219,7 +219,7 @@ module _ (n steps : ℕ) (history : History) (held : IsHeld history) (few : n �
             (kept_same level.Linearizable all h.sorted h.are_kept bytes read) h.run;
       }
 
-  told_below : (want : Level) (h : IsJudgedBelow want (empty_state n) all steps ordered) →
+  told_below : (want : Level) (h : IsJudgedBelow want (empty_state n) all steps searched) →
       RunsBefore want n bytes (calls_of all) h.given → FindsText want n steps bytes result text
   unfolding read_at
   told_below want h before = go h.judged
@@ -230,7 +230,7 @@ module _ (n steps : ℕ) (history : History) (held : IsHeld history) (few : n �
           h.left steps (let own = h.together in omega arith) before
           (record { made = 0; within = omega arith; run = tt })
 
-      go : IsJudgedFirst want (empty_state n) all h.given h.left ordered → FindsText want n steps bytes result text
+      go : IsJudgedFirst want (empty_state n) all h.given h.left searched → FindsText want n steps bytes result text
       go (inl found) =
           let ordered_is = order found.1 in
           subst (λ o. FindsText want n steps bytes o text) (sym ordered_is)
@@ -239,10 +239,10 @@ module _ (n steps : ℕ) (history : History) (held : IsHeld history) (few : n �
       go (inr j) =
           subst (λ m. FindsText want n m bytes result text) h.together
           (prints want j.relaxed.relaxed n h.given h.left bytes few j.relaxed.are_kept j.judged
-          (read_at want ordered.calls.lines.items j.relaxed) before)
+          (read_at want searched.calls.lines.items j.relaxed) before)
 
-  pub told_at : (want : Level) → IsJudgedAt want (empty_state n) all steps ordered →
+  pub told_at : (want : Level) → IsJudgedAt want (empty_state n) all steps searched →
       FindsText want n steps bytes result text
   told_at level.Linearizable h = told_given steps h
-  told_at level.Sequential h = told_below level.Sequential h (runs_given h.given h.searched)
-  told_at level.Serializable h = told_below level.Serializable h (runs_given h.given h.searched)
+  told_at level.Sequential h = told_below level.Sequential h (runs_given h.given h.before)
+  told_at level.Serializable h = told_below level.Serializable h (runs_given h.given h.before)

@@ -15,7 +15,7 @@ use Rattle.judge_calls.specs.Laws.{Lists}
 use Rattle.judge_search.specs.declared.walk.Finding.{Finding}
 use Rattle.judge_search.specs.declared.walk.Finding.TheVariants as finding
 use Rattle.judge_search.specs.Searching.{HasRun}
-use Rattle.judge_linear.specs.declared.order.Ordered.{Ordered}
+use Rattle.judge_linear.specs.declared.order.SearchedCalls.{SearchedCalls}
 use Rattle.judge_linear.specs.Reading.{texts_of, AreKeptLines, first_wrong}
 use Rattle.judge_reservations.specs.Histories.{part_of_history}
 use Rattle.judge_reservations.specs.Lines.{numbered, line_part, has_part}
@@ -26,8 +26,8 @@ use Rattle.judge_search.specs.Configurations.{start}
 use Rattle.judge_search.specs.Judging.{IsFoundIn}
 use Rattle.judge_search.specs.Point.{point_at}
 use Rattle.judge_search.specs.Sorting.{AreSortOf}
-use Rattle.judge_linear.specs.declared.order.Judged.{Judged}
-use Rattle.judge_linear.specs.declared.order.Judged.TheVariants as judged
+use Rattle.judge_linear.specs.declared.order.SearchResult.{SearchResult}
+use Rattle.judge_linear.specs.declared.order.SearchResult.TheVariants as judged
 use Rattle.judge_linear.specs.declared.part.IllegalPart.{IllegalPart}
 use Rattle.judge_linear.specs.Moments.{IsWrongPart}
 
@@ -45,8 +45,8 @@ pub record HasNoOrderOf (lines : List (Line Task)) (part : IllegalPart) : Type 0
   pub wrong : IsWrongPart part.calls.lines.items part.wrong
 
 -- what the searches find of calls, from a state on, in at most `steps` steps of each search
-abbrev pub IsJudged : State → Calls Task → ℕ → Judged → Type 0
-IsJudged s calls steps (judged.Whole found) =
+abbrev pub IsJudged : State → Calls Task → ℕ → SearchResult → Type 0
+IsJudged s calls steps (judged.AllCalls found) =
     IsFoundIn reserving (point_at reserving calls) s (calls_of calls.lines.items) steps found
 IsJudged s calls steps (judged.Part part) = HasNoOrderOf calls.lines.items part
 
@@ -60,9 +60,9 @@ pub record AreRelaxed (kept : Level) (lines sorted : List (Line Task)) : Type 0 
 -- what the searches find of the calls of lines at a level, from a state on, in at most `steps`
 -- steps of each search
 pub record IsJudgedAs (kept : Level) (s : State) (lines : List (Line Task)) (steps : ℕ)
-    (ordered : Ordered) : Type 0 where
-  pub relaxed : AreRelaxed kept lines ordered.calls.lines.items
-  pub judged : IsJudged s ordered.calls steps ordered.judged
+    (searched : SearchedCalls) : Type 0 where
+  pub relaxed : AreRelaxed kept lines searched.calls.lines.items
+  pub judged : IsJudged s searched.calls steps searched.judged
 
 -- an exact search of the calls of lines as they are given can make this number of steps
 pub record HasSearched (s : State) (lines : List (Line Task)) (steps : ℕ) : Type 0 where
@@ -77,33 +77,33 @@ IsOrder (finding.NoOrder most point) = ⊥
 IsOrder (finding.Unknown most) = ⊥
 
 -- a linearization is found
-abbrev pub HasFoundOrder : Judged → Type 0
-HasFoundOrder (judged.Whole found) = IsOrder found.finding
+abbrev pub HasFoundOrder : SearchResult → Type 0
+HasFoundOrder (judged.AllCalls found) = IsOrder found.finding
 HasFoundOrder (judged.Part part) = ⊥
 
 -- the search of the lines as they are given finds a linearization, or a search at the level follows
-abbrev pub IsJudgedFirst : Level → State → List (Line Task) → ℕ → ℕ → Ordered → Type 0
-IsJudgedFirst kept s lines given left ordered =
-    (IsJudgedAs level.Linearizable s lines given ordered × HasFoundOrder ordered.judged)
-    ⊎ IsJudgedAs kept s lines left ordered
+abbrev pub IsJudgedFirst : Level → State → List (Line Task) → ℕ → ℕ → SearchedCalls → Type 0
+IsJudgedFirst kept s lines given left searched =
+    (IsJudgedAs level.Linearizable s lines given searched × HasFoundOrder searched.judged)
+    ⊎ IsJudgedAs kept s lines left searched
 
 -- what the searches find at a level below linearizability: after a search of the lines as they are
 -- given, the search at the level has the steps that are left
 pub record IsJudgedBelow (kept : Level) (s : State) (lines : List (Line Task)) (steps : ℕ)
-    (ordered : Ordered) : Type 0 where
+    (searched : SearchedCalls) : Type 0 where
   pub given : ℕ
   pub left : ℕ
   pub together : given + left ≡ steps
-  pub searched : HasSearched s lines given
+  pub before : HasSearched s lines given
   pub sorted : List (Line Task)
   pub relaxed : AreRelaxed kept lines sorted
-  pub judged : IsJudgedFirst kept s lines given left ordered
+  pub judged : IsJudgedFirst kept s lines given left searched
 
 -- what the searches find of the calls of lines at a level
-abbrev pub IsJudgedAt : Level → State → List (Line Task) → ℕ → Ordered → Type 0
-IsJudgedAt level.Linearizable s lines steps ordered =
-    IsJudgedAs level.Linearizable s lines steps ordered
-IsJudgedAt kept s lines steps ordered = IsJudgedBelow kept s lines steps ordered
+abbrev pub IsJudgedAt : Level → State → List (Line Task) → ℕ → SearchedCalls → Type 0
+IsJudgedAt level.Linearizable s lines steps searched =
+    IsJudgedAs level.Linearizable s lines steps searched
+IsJudgedAt kept s lines steps searched = IsJudgedBelow kept s lines steps searched
 
 -- a text has these lines, which are calls in turn, and the relaxed lines are their calls without
 -- the order that the level does not keep

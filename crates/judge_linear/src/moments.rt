@@ -220,7 +220,7 @@ fn blocked_place(lines: &[Line<ValidTask>], part: &CutPart) -> Option<usize>
 
 /// Returns the number of a call that ended at the moment: of the first blocked call that ended
 /// then, or else of the call at the position.
-fn line_of(lines: &[Line<ValidTask>], first: &CutAt) -> u64
+fn number_of_end(lines: &[Line<ValidTask>], first: &CutAt) -> u64
     requires { EndsAt lines.now first.now.place first.now.part.moment }
     ensures { IsEndIn lines.now result first.now.part.moment }
 {
@@ -269,7 +269,7 @@ fn states_before(
 ///
 /// Not said: that the calls have an order at all earlier ends, unless the number of states is
 /// returned; which number is returned if several calls ended at the moment.
-pub(crate) fn first_wrong<P: Watcher>(
+pub(crate) fn first_end_without_order<P: Watcher>(
     alloc: Global,
     calls: &Calls<ValidTask>,
     steps: u64,
@@ -281,7 +281,7 @@ pub(crate) fn first_wrong<P: Watcher>(
     let Some(first) = first_cut(alloc, calls, steps, watcher)? else {
         return Ok(None);
     };
-    let line = line_of(calls.as_slice(), &first);
+    let line = number_of_end(calls.as_slice(), &first);
     let states = states_before(alloc, calls, first.part.moment)?;
     Ok(Some(WrongPart {
         line,

@@ -48,9 +48,9 @@ fn checked_order(
 
 /// The finding on the calls of a history.
 #[derive(Drop)]
-pub(crate) enum Judged {
+pub(crate) enum SearchResult {
     /// The finding of a search of all calls, and the number of steps of the exact search.
-    Whole(Found<Point<Reservations>>),
+    AllCalls(Found<Point<Reservations>>),
     /// A part of the history has no order.
     Part(IllegalPart),
 }
@@ -84,21 +84,21 @@ fn judge_order<P: Watcher>(
     machine: Reservations,
     steps: u64,
     watcher: &mut P,
-) -> Result<Judged, AllocError>
+) -> Result<SearchResult, AllocError>
     requires whole { IsWhole (calls_of calls.now.lines.items) }
     ensures { IfOk result (IsJudged machine calls.now steps) }
 {
     if let Some(places) = find_fast(alloc, calls, &machine, steps, watcher)? {
-        return Ok(Judged::Whole(Found {
+        return Ok(SearchResult::AllCalls(Found {
             finding: Finding::Order(places),
             steps: 0,
         }));
     }
     if let Some(part) = find_illegal_part(alloc, calls, steps, watcher)? {
-        return Ok(Judged::Part(part));
+        return Ok(SearchResult::Part(part));
     }
     let found = find_linearization(alloc, calls, machine, steps, watcher)?;
-    Ok(Judged::Whole(found))
+    Ok(SearchResult::AllCalls(found))
 }
 
 /// Searches for a linearization of all calls from a state on, quickly and then exactly, in at most
@@ -123,14 +123,14 @@ fn find_whole<P: Watcher>(
     }
 }
 
-/// The calls of a history as the search keeps them, and the finding of the search, which names
-/// positions in them.
+/// The calls of a history as the search keeps them, and the finding. The finding of a search of all
+/// calls names positions in them; an illegal part has calls of its own.
 #[derive(Drop)]
-pub(crate) struct Ordered {
+pub(crate) struct SearchedCalls {
     /// The calls in the order in which they ended.
     pub calls: Calls<ValidTask>,
     /// The finding of the searches.
-    pub judged: Judged,
+    pub judged: SearchResult,
 }
 
 /// Searches for an order of the calls of a history at a level below linearizability. Since a
@@ -141,7 +141,7 @@ fn judge_below<P: Watcher>(
     history: History,
     how: Settings,
     watcher: &mut P,
-) -> Result<Ordered, AllocError>
+) -> Result<SearchedCalls, AllocError>
     requires some { 1 ≤ how.blocks }
     requires most { how.blocks ≤ MOST_BLOCKS }
     requires held { IsHeld history }
@@ -153,13 +153,13 @@ fn judge_below<P: Watcher>(
     let calls = Calls::new(alloc, history.lines)?;
     let found = find_whole(alloc, &calls, machine.copy()?, how.steps / 2, watcher)?;
     if let Finding::Order(_) = &found.finding {
-        let judged = Judged::Whole(found);
-        return Ok(Ordered { calls, judged });
+        let judged = SearchResult::AllCalls(found);
+        return Ok(SearchedCalls { calls, judged });
     }
     let relaxed = relaxed_calls(alloc, how.level, calls.as_slice())?;
     let left = how.steps - found.steps;
     let judged = judge_order(alloc, &relaxed, machine, left, watcher)?;
-    Ok(Ordered {
+    Ok(SearchedCalls {
         calls: relaxed,
         judged,
     })
@@ -171,7 +171,7 @@ fn judge_given<P: Watcher>(
     history: History,
     how: Settings,
     watcher: &mut P,
-) -> Result<Ordered, AllocError>
+) -> Result<SearchedCalls, AllocError>
     requires some { 1 ≤ how.blocks }
     requires most { how.blocks ≤ MOST_BLOCKS }
     requires held { IsHeld history }
@@ -181,7 +181,7 @@ fn judge_given<P: Watcher>(
     let machine = open(alloc, how.blocks)?;
     let calls = Calls::new(alloc, history.lines)?;
     let judged = judge_order(alloc, &calls, machine, how.steps, watcher)?;
-    Ok(Ordered { calls, judged })
+    Ok(SearchedCalls { calls, judged })
 }
 
 /// Searches for an order of the calls of a history at a level.
@@ -190,7 +190,7 @@ pub(crate) fn judge_lines<P: Watcher>(
     history: History,
     how: Settings,
     watcher: &mut P,
-) -> Result<Ordered, AllocError>
+) -> Result<SearchedCalls, AllocError>
     requires some { 1 ≤ how.blocks }
     requires most { how.blocks ≤ MOST_BLOCKS }
     requires held { IsHeld history }

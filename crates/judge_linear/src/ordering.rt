@@ -19,7 +19,7 @@ ghost use Rattle.judge_linear.specs.Ordering.{FindsText, HasText, HasOrdered, Ha
 
 use crate::found::{BlockedCalls, print_order};
 use crate::history::History;
-use crate::order::{Judged, Ordered, judge_lines};
+use crate::order::{SearchResult, SearchedCalls, judge_lines};
 use crate::reading::{Reading, read_history};
 use crate::settings::Settings;
 use judge_object::Watcher;
@@ -83,21 +83,21 @@ fn print_whole(
 /// Writes the text of the finding for some calls into `text`, which is empty before.
 fn print_finding(
     alloc: Global,
-    ordered: &Ordered,
+    searched: &SearchedCalls,
     text: &mut Vec<u8>,
 ) -> Result<Outcome, AllocError>
-    ensures order { IfOk result (λ outcome. HasFoundOrder ordered.now.judged →
+    ensures order { IfOk result (λ outcome. HasFoundOrder searched.now.judged →
         outcome ≡ Outcome.Ordered) }
     ensures text { IfOk result (λ outcome. (kept : Level) (lines : List (Line Task)) (n : ℕ)
         (given left : ℕ) (bytes : List ℕ) → n ≤ MOST_BLOCKS →
-        AreKeptLines lines ordered.now.calls.lines.items →
-        IsJudged (empty_state n) ordered.now.calls left ordered.now.judged →
+        AreKeptLines lines searched.now.calls.lines.items →
+        IsJudged (empty_state n) searched.now.calls left searched.now.judged →
         (read : IsReadAt kept bytes lines) → RunsBefore kept n bytes read.calls given →
         text.old.items ≡ [] → FindsText kept n (given + left) bytes outcome text.new.items) }
 {
-    match &ordered.judged {
-        Judged::Whole(found) => print_whole(alloc, &ordered.calls, found, text),
-        Judged::Part(part) => {
+    match &searched.judged {
+        SearchResult::AllCalls(found) => print_whole(alloc, &searched.calls, found, text),
+        SearchResult::Part(part) => {
             print(part, text)?;
             Ok(Outcome::Illegal)
         }
@@ -119,9 +119,9 @@ fn order_calls<P: Watcher>(
         Lists bytes (calls_of history.lines.items) → first_wrong bytes ≡ None →
         FindsText how.level how.blocks how.steps bytes found.0 found.1.items) }
 {
-    let ordered = judge_lines(alloc, history, how, watcher)?;
+    let searched = judge_lines(alloc, history, how, watcher)?;
     let mut text = Vec::new(alloc);
-    let outcome = print_finding(alloc, &ordered, &mut text)?;
+    let outcome = print_finding(alloc, &searched, &mut text)?;
     Ok((outcome, text))
 }
 

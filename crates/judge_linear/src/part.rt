@@ -8,7 +8,7 @@ ghost use Rattle.judge_search.specs.Calls.{calls_of};
 ghost use Rattle.judge_search.specs.Walk.{IsWhole};
 ghost use Rattle.judge_linear.specs.Judged.{HasNoOrderOf};
 
-use crate::moments::{WrongPart, first_wrong};
+use crate::moments::{WrongPart, first_end_without_order};
 use crate::proposals::Proposals;
 use judge_object::Watcher;
 use judge_reservations::{Names, Reservations, Scope, part_of_history, scope_of};
@@ -62,7 +62,7 @@ fn part_without_order<P: Watcher>(
 {
     let lines = part_of_history(alloc, &scope, calls.as_slice())?;
     let part = Calls::new(alloc, lines)?;
-    match first_wrong(alloc, &part, steps, watcher)? {
+    match first_end_without_order(alloc, &part, steps, watcher)? {
         Some(wrong) => Ok(Some(IllegalPart {
             scope,
             calls: part,

@@ -8,8 +8,8 @@ use Rattle.judge_linear.specs.Moments.{IsWrongPart}
 use Rattle.judge_linear.proofs.PartCalls.{sorted_whole, part_none}
 use Rattle.judge_linear.proofs.part.part_without_order.Goals as goal
 
-pub first_wrong-requires : goal.first_wrong-requires
-first_wrong-requires g c = record {
+pub first_end_without_order-requires : goal.first_end_without_order-requires
+first_end_without_order-requires g c = record {
   whole = sorted_whole c.args.scope c.args.calls.now.lines.items c.in_ok-lines.lines.items
       c.in_ok-part.part.lines.items c.requires.whole (c.in_ok-lines.ensures.calls
       ∙ ap (λ ls. part_of_history c.args.scope (calls_of ls)) c.as_slice.ensures) c.in_ok-part.ensures.merges;

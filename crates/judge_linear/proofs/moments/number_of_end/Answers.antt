@@ -2,8 +2,8 @@ use Rattle.std.proofs.Common.{sym, subst}
 use Rattle.std.specs.Prelude.{IfSome}
 use Rattle.judge_linear.specs.Moments.{EndsAt}
 use Rattle.judge_linear.proofs.CutCalls.{end_in}
-use Rattle.judge_linear.proofs.moments.line_of.Goals.{in-Some, in-None}
-use Rattle.judge_linear.proofs.moments.line_of.Goals as goal
+use Rattle.judge_linear.proofs.moments.number_of_end.Goals.{in-Some, in-None}
+use Rattle.judge_linear.proofs.moments.number_of_end.Goals as goal
 
 pub returns : goal.returns
 returns c =
