@@ -9,10 +9,10 @@ ghost use Rattle.judge_linear.specs.Moments.{AreCutCalls, EndsAt, IsEndIn, HadNo
 ghost use Rattle.judge_linear.specs.Moments.{HadNoOrderAt, IsWrongPart};
 ghost use Rattle.judge_linear.specs.Possible.{HadStatesBefore};
 
-use crate::part::open;
 use crate::possible::possible_states;
 use crate::relaxed::copied_line;
 use judge_object::{Line, NEVER, Watcher, cut_lines};
+use judge_reservations::Reservations;
 use judge_search::{Calls, Finding, Stuck, find_linearization, stuck_calls};
 use std::alloc::{AllocError, Global};
 use vac_model::limits::MOST_BLOCKS;
@@ -70,7 +70,7 @@ fn cut_without_order<P: Watcher>(
     ensures moment { IfOk result (λ found. IfSome found (λ part. part.moment ≡ moment)) }
 {
     let part = cut_calls(alloc, moment, calls.as_slice())?;
-    let machine = open(alloc, MOST_BLOCKS)?;
+    let machine = Reservations::empty(alloc, MOST_BLOCKS)?;
     let found = find_linearization(alloc, &part, machine, steps, watcher)?;
     let Finding::NoOrder(_, point) = &found.finding else {
         return Ok(None);

@@ -12,7 +12,7 @@ ghost use Rattle.judge_linear.specs.Judged.{IsJudged, IsJudgedAs, IsJudgedAt};
 ghost use Rattle.judge_linear.specs.Reading.{IsHeld};
 
 use crate::history::History;
-use crate::part::{IllegalPart, find_illegal_part, open};
+use crate::part::{IllegalPart, find_illegal_part};
 use crate::relaxed::relaxed_calls;
 use crate::settings::Settings;
 use judge_heuristic::find_quickly;
@@ -149,7 +149,7 @@ fn judge_below<P: Watcher>(
     ensures { IfOk result
         (IsJudgedAt how.level (empty_state how.blocks) history.lines.items how.steps) }
 {
-    let machine = open(alloc, how.blocks)?;
+    let machine = Reservations::empty(alloc, how.blocks)?;
     let calls = Calls::new(alloc, history.lines)?;
     let found = find_whole(alloc, &calls, machine.copy()?, how.steps / 2, watcher)?;
     if let Finding::Order(_) = &found.finding {
@@ -178,7 +178,7 @@ fn judge_given<P: Watcher>(
     ensures { IfOk result
         (IsJudgedAs Linearizable (empty_state how.blocks) history.lines.items how.steps) }
 {
-    let machine = open(alloc, how.blocks)?;
+    let machine = Reservations::empty(alloc, how.blocks)?;
     let calls = Calls::new(alloc, history.lines)?;
     let judged = judge_order(alloc, &calls, machine, how.steps, watcher)?;
     Ok(SearchedCalls { calls, judged })

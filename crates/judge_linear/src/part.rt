@@ -1,8 +1,7 @@
 //! Searches for a part of a history that has no order.
 
-ghost use Rattle.std.specs.Prelude.{◌≡◌, ◌≤◌, true, IfOk, IfSome};
+ghost use Rattle.std.specs.Prelude.{◌≡◌, true, IfOk, IfSome};
 ghost use Rattle.std.specs.List.{list_all};
-ghost use Rattle.vac_model.specs.State.{empty_state};
 ghost use Rattle.judge_reservations.specs.Lines.{has_part};
 ghost use Rattle.judge_search.specs.Calls.{calls_of};
 ghost use Rattle.judge_search.specs.Walk.{IsWhole};
@@ -32,19 +31,6 @@ pub(crate) struct IllegalPart {
     pub calls: Calls<ValidTask>,
     /// The calls of the part as they stood at the end of a call.
     pub wrong: WrongPart,
-}
-
-/// Returns the state of a system without entries. The number of blocks is in range, so the one
-/// refusal left is that of memory.
-pub(crate) fn open(alloc: Global, blocks: u32) -> Result<Reservations, AllocError>
-    requires some { 1 ≤ blocks }
-    requires most { blocks ≤ MOST_BLOCKS }
-    ensures { IfOk result (λ machine. machine ≡ empty_state blocks) }
-{
-    match Reservations::new(alloc, blocks) {
-        Ok(machine) => Ok(machine),
-        Err(_) => Err(AllocError),
-    }
 }
 
 /// Searches for the first call at whose end the part of a history on a scope has no order, in at
@@ -110,7 +96,7 @@ pub(crate) fn find_illegal_part<P: Watcher>(
         return Ok(None);
     }
     let few = steps.min(MOST_STEPS);
-    let empty = open(alloc, MOST_BLOCKS)?;
+    let empty = Reservations::empty(alloc, MOST_BLOCKS)?;
     let mut proposals = Proposals::new(alloc, calls.as_slice(), empty)?;
     for _ in 0..MOST_CHECKS {
         let Some(names) = proposals.next_names(alloc)? else {

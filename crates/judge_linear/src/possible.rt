@@ -6,7 +6,6 @@ ghost use Rattle.judge_search.specs.Calls.{calls_of};
 ghost use Rattle.judge_search.specs.Walk.{IsWhole};
 ghost use Rattle.judge_linear.specs.Possible.{AreSameOnce, AddsOnce, HaveStates};
 
-use crate::part::open;
 use judge_reservations::Reservations;
 use judge_search::{Calls, states_left};
 use std::alloc::{AllocError, Global};
@@ -77,7 +76,7 @@ pub(crate) fn possible_states(
     ensures { IfOk result (λ found. IfSome found
         (HaveStates (calls_of calls.now.lines.items))) }
 {
-    let machine = open(alloc, MOST_BLOCKS)?;
+    let machine = Reservations::empty(alloc, MOST_BLOCKS)?;
     let Some(states) = states_left(alloc, calls, machine, MOST_POINTS)? else {
         return Ok(None);
     };

@@ -8,6 +8,7 @@ use judge_object::Object;
 use std::alloc::{AllocError, Global};
 use std::marker::Model;
 use vac_lines::append;
+use vac_model::limits::MOST_BLOCKS;
 use vac_model::{Reply, ValidTask};
 use vac_sequential::{Sequential, SequentialFault};
 
@@ -36,6 +37,19 @@ impl Reservations {
         Ok(Reservations {
             manager: Sequential::new(alloc, blocks)?,
         })
+    }
+
+    /// Returns the state without entries of a system of `blocks` blocks. The number of blocks is in
+    /// range, so the one refusal left is that of memory.
+    pub fn empty(alloc: Global, blocks: u32) -> Result<Reservations, AllocError>
+        requires some { 1 ≤ blocks }
+        requires most { blocks ≤ MOST_BLOCKS }
+        ensures { IfOk result (λ machine. machine ≡ empty_state blocks) }
+    {
+        match Reservations::new(alloc, blocks) {
+            Ok(machine) => Ok(machine),
+            Err(_) => Err(AllocError),
+        }
     }
 
     /// Returns whether both states are equal.
