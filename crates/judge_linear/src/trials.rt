@@ -4,7 +4,7 @@
 use crate::index::Index;
 use judge_heuristic::find_quickly;
 use judge_object::{Line, NEVER, Object};
-use judge_reservations::{Names, Reservations, Scope, fits, part_of_history};
+use judge_reservations::{Names, Reservations, Scope, has_part, part_of_history};
 use std::alloc::{AllocError, Global};
 use vac_model::{Command, Kind, Task, ValidTask};
 
@@ -89,14 +89,6 @@ fn push_items(task: &Task, items: &mut Vec<(Kind, u32)>) -> Result<(), AllocErro
         )
         | Task::Leave { .. }
         | Task::Update { .. } => Ok(()),
-    }
-}
-
-/// Returns whether the call of a line has a part on a scope.
-fn has_part(scope: &Scope, line: &Line<ValidTask>) -> bool {
-    match &line.reply {
-        Some(text) => fits(scope, line.op.task(), Some(text.as_slice())),
-        None => fits(scope, line.op.task(), None),
     }
 }
 

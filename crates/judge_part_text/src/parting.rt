@@ -12,8 +12,8 @@ ghost use Rattle.judge_part_text.specs.Parting.{HasStoppedParting};
 use crate::printing::print_calls;
 use crate::reading::{Reading, read_history};
 use judge_calls::{Verdict, read_all};
-use judge_object::{Line, NEVER};
-use judge_reservations::{Names, Scope, fits, part_of_history, scope_of};
+use judge_object::Line;
+use judge_reservations::{Names, Scope, has_part, part_of_history, scope_of};
 use std::alloc::{AllocError, Global};
 use std::io::{Read, Write};
 use vac_lines::{StreamFault, print, write_and_flush};
@@ -30,17 +30,6 @@ pub(crate) fn open_scope(alloc: Global, names: &Names) -> Result<Scope, AllocErr
         closed: Vec::new(alloc),
         whole: Vec::new(alloc),
     })
-}
-
-/// Returns whether the call of a line has a part, and is timed.
-pub(crate) fn has_part(scope: &Scope, line: &Line<ValidTask>) -> bool
-    ensures { result ≡ spec.has_part scope.now (spec.call_of line.now) }
-{
-    u128::from(line.begin) < NEVER
-        && match &line.reply {
-            Some(text) => fits(scope, line.op.task(), Some(text.as_slice())),
-            None => NEVER <= line.end && fits(scope, line.op.task(), None),
-        }
 }
 
 /// Returns the position of the first line whose call has no part on a scope.

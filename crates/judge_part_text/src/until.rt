@@ -12,12 +12,12 @@ ghost use Rattle.judge_part_text.specs.Until.{end_at, had_part, IsTextThen};
 ghost use Rattle.judge_part_text.specs.Until.{IsTextUntil, IsCutTextFor};
 ghost use Rattle.judge_part_text.specs.Until.{HasPartedUntil, HasStoppedPartingUntil};
 
-use crate::parting::{has_part, open_scope};
+use crate::parting::open_scope;
 use crate::printing::print_calls;
 use crate::reading::{Reading, read_history};
 use judge_calls::{Verdict, read_all};
 use judge_object::{Line, NEVER, cut_lines};
-use judge_reservations::{Names, Scope, part_of_history, scope_of};
+use judge_reservations::{Names, Scope, has_part, part_of_history, scope_of};
 use std::alloc::{AllocError, Global};
 use std::io::{Read, Write};
 use vac_lines::{StreamFault, print, write_and_flush};

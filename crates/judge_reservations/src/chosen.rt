@@ -7,9 +7,9 @@ ghost use Rattle.judge_reservations.specs.Scopes.{is_closed, is_whole};
 ghost use Rattle.judge_reservations.specs.Largest as largest;
 ghost use Rattle.judge_reservations.specs.Lines as spec;
 
-use crate::calls::fits;
+use crate::history::has_part;
 use crate::scope::Scope;
-use judge_object::{Line, NEVER};
+use judge_object::Line;
 use std::alloc::{AllocError, Global};
 use vac_model::{Kind, ValidTask};
 
@@ -154,16 +154,4 @@ fn all_have_parts(scope: &Scope, lines: &[Line<ValidTask>]) -> bool
     ensures { result ≡ list_all (λ line. spec.has_part scope.now (spec.call_of line)) lines.now }
 {
     lines.iter().all(|line| has_part(scope, line))
-}
-
-/// Returns whether the call of a line has a part, books nothing that the scope does not allow, and
-/// is timed.
-fn has_part(scope: &Scope, line: &Line<ValidTask>) -> bool
-    ensures { result ≡ spec.has_part scope.now (spec.call_of line.now) }
-{
-    u128::from(line.begin) < NEVER
-        && match &line.reply {
-            Some(text) => fits(scope, line.op.task(), Some(text.as_slice())),
-            None => NEVER <= line.end && fits(scope, line.op.task(), None),
-        }
 }

@@ -1,4 +1,4 @@
-//! The part of a history.
+//! The part of a history, and the calls that have parts.
 
 ghost use Rattle.std.specs.Prelude.{◌≡◌, ◌++◌, [], map, is_some, true, IfOk, OnOk};
 ghost use Rattle.std.specs.List.{filter_map, cons_option};
@@ -9,11 +9,24 @@ ghost use Rattle.judge_reservations.specs.Histories.{part_of_history};
 ghost use Rattle.judge_reservations.specs.Lines as spec;
 
 use crate::answers::task_part;
+use crate::calls::fits;
 use crate::pending::pending_part;
 use crate::scope::Scope;
-use judge_object::Line;
+use judge_object::{Line, NEVER};
 use std::alloc::{AllocError, Global};
 use vac_model::{Task, ValidTask};
+
+/// Returns whether the call of a line has a part, books nothing that the scope does not allow, and
+/// is timed.
+pub fn has_part(scope: &Scope, line: &Line<ValidTask>) -> bool
+    ensures { result ≡ spec.has_part scope.now (spec.call_of line.now) }
+{
+    u128::from(line.begin) < NEVER
+        && match &line.reply {
+            Some(text) => fits(scope, line.op.task(), Some(text.as_slice())),
+            None => NEVER <= line.end && fits(scope, line.op.task(), None),
+        }
+}
 
 /// Returns the part of a history on a scope: the parts of its calls, in the order of the lines,
 /// each with the number of its line in the history. The part of a pending call is pending, and its

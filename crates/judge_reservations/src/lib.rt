@@ -17,7 +17,7 @@ mod words;
 pub use answers::{AnsweredTask, task_part};
 pub use calls::fits;
 pub use chosen::scope_of;
-pub use history::part_of_history;
+pub use history::{has_part, part_of_history};
 pub use laws::{
     calls_of_cuts_have_parts, illegal_parts_show_illegal_histories,
     illegal_parts_show_that_finer_parts_are_illegal,
