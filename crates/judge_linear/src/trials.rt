@@ -23,16 +23,6 @@ pub(crate) struct Trial<'a> {
     pub(crate) empty: Reservations,
 }
 
-/// Returns a scope without closed items and whole customers.
-fn open_scope(alloc: Global, names: &Names) -> Result<Scope, AllocError> {
-    Ok(Scope {
-        customers: Vec::from_slice(alloc, names.customers.as_slice())?,
-        items: Vec::from_slice(alloc, names.items.as_slice())?,
-        closed: Vec::new(alloc),
-        whole: Vec::new(alloc),
-    })
-}
-
 /// Appends a value, unless the list has it.
 fn push_new<T: Copy + PartialEq>(values: &mut Vec<T>, value: T) -> Result<(), AllocError> {
     if !values.contains(&value) {
@@ -148,7 +138,7 @@ impl Trial<'_> {
 
     /// Returns the items among these names that only customers among the names book.
     fn closed_items(&self, alloc: Global, names: &Names) -> Result<Vec<(Kind, u32)>, AllocError> {
-        let mut scope = open_scope(alloc, names)?;
+        let mut scope = Scope::open(alloc, names)?;
         let mut closed = Vec::new(alloc);
         let mut places = Vec::new(alloc);
         for item in names.items.as_slice() {
@@ -165,7 +155,7 @@ impl Trial<'_> {
 
     /// Returns the customers among these names that only book items among the names.
     fn whole_customers(&self, alloc: Global, names: &Names) -> Result<Vec<u32>, AllocError> {
-        let mut scope = open_scope(alloc, names)?;
+        let mut scope = Scope::open(alloc, names)?;
         let mut whole = Vec::new(alloc);
         let mut places = Vec::new(alloc);
         for customer in names.customers.as_slice() {

@@ -15,9 +15,9 @@ use Rattle.judge_object.specs.Cut.{cut, cut_call, running}
 use Rattle.judge_calls.specs.Call.{Call}
 use Rattle.judge_calls.specs.Laws.{Lists}
 use Rattle.judge_reservations.specs.declared.scope.Scope.{Scope}
+use Rattle.judge_reservations.specs.Scopes.{IsOpen}
 use Rattle.judge_reservations.specs.Largest.{HasNoScope}
 use Rattle.judge_reservations.specs.Lines.{call_of, calls_of, has_part}
-use Rattle.judge_part_text.specs.Parting.{IsOpen}
 use Rattle.judge_part_text.specs.Until.{had_part, may_have_part, end_at, IsFirstWithoutThen, IsTextThen}
 use Rattle.judge_part_text.specs.Until.{IsTextUntil, IsCutTextFor}
 use Rattle.judge_part_text.specs.Until.{IsTextOfCut}

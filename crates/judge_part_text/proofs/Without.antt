@@ -9,9 +9,10 @@ use Rattle.vac_model.specs.declared.tasks.Task.{Task}
 use Rattle.vac_model.specs.State.{Place}
 use Rattle.judge_object.specs.declared.line.Line.{Line}
 use Rattle.judge_reservations.specs.declared.scope.Scope.{Scope}
+use Rattle.judge_reservations.specs.Scopes.{IsOpen}
 use Rattle.judge_reservations.specs.Largest.{HasNoScope}
 use Rattle.judge_reservations.specs.Lines.{call_of, calls_of, has_part}
-use Rattle.judge_part_text.specs.Parting.{IsOpen, IsFirstWithout}
+use Rattle.judge_part_text.specs.Parting.{IsFirstWithout}
 
 -- ---- positions
 

@@ -15,18 +15,12 @@ use Rattle.judge_calls.specs.HeldReading.{IsReadWhole}
 use Rattle.judge_calls.specs.Laws.{Lists}
 use Rattle.judge_calls.specs.Verdict.{verdict_text}
 use Rattle.judge_reservations.specs.declared.scope.Scope.{Scope}
+use Rattle.judge_reservations.specs.Scopes.{IsOpen}
 use Rattle.judge_reservations.specs.Histories.{part_of_history}
 use Rattle.judge_reservations.specs.Largest.{IsScopeOf, HasAllClosed, HasAllWhole, HasNoScope}
 use Rattle.judge_reservations.specs.Lines.{has_part}
 use Rattle.judge_part_text.specs.Naming.{Named}
 use Rattle.judge_part_text.specs.Reading.{IsFirstDamaged}
-
--- the scope of these customers and items on which no item is closed and no customer is whole
-pub record IsOpen (customers : List ℕ) (items : List Place) (scope : Scope) : Type 0 where
-  pub customers_are : scope.customers.items ≡ customers
-  pub items_are : scope.items.items ≡ items
-  pub closed : scope.closed.items ≡ []
-  pub whole : scope.whole.items ≡ []
 
 -- no scope of these customers and items has parts of all calls; the call with this number, counted
 -- from 1, is the first that has no part even if no item is closed and no customer is whole

@@ -17,10 +17,11 @@ use Rattle.judge_calls.specs.Call.{Call}
 use Rattle.judge_calls.specs.HeldReading.{IsReadWhole}
 use Rattle.judge_calls.specs.Laws.{Lists}
 use Rattle.judge_reservations.specs.declared.scope.Scope.{Scope}
+use Rattle.judge_reservations.specs.Scopes.{IsOpen}
 use Rattle.judge_reservations.specs.Largest.{HasNoScope}
 use Rattle.judge_reservations.specs.Lines.{has_part}
 use Rattle.judge_part_text.specs.Naming.{Named}
-use Rattle.judge_part_text.specs.Parting.{IsOpen, IsPartOfCalls, IsDamageText, no_part_text}
+use Rattle.judge_part_text.specs.Parting.{IsPartOfCalls, IsDamageText, no_part_text}
 
 -- END of a call, if the call is completed
 abbrev pub completed_end : Call → Option ℕ

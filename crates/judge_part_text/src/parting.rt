@@ -5,7 +5,7 @@ ghost use Rattle.std.specs.List.{position};
 ghost use Rattle.judge_reservations.specs.Largest.{HasNoScope};
 ghost use Rattle.judge_reservations.specs.Lines as spec;
 ghost use Rattle.judge_part_text.specs.Naming as naming;
-ghost use Rattle.judge_part_text.specs.Parting.{IsOpen, IsFirstWithout};
+ghost use Rattle.judge_part_text.specs.Parting.{IsFirstWithout};
 ghost use Rattle.judge_part_text.specs.Parting.{IsTextOfCalls, IsTextFor, HasParted};
 ghost use Rattle.judge_part_text.specs.Parting.{HasStoppedParting};
 
@@ -18,19 +18,6 @@ use std::alloc::{AllocError, Global};
 use std::io::{Read, Write};
 use vac_lines::{StreamFault, print, write_and_flush};
 use vac_model::ValidTask;
-
-/// Returns the scope of some names on which no item is closed and no customer is whole.
-pub(crate) fn open_scope(alloc: Global, names: &Names) -> Result<Scope, AllocError>
-    ensures { IfOk result (λ scope.
-        IsOpen names.now.customers.items names.now.items.items scope) }
-{
-    Ok(Scope {
-        customers: Vec::from_slice(alloc, names.customers.as_slice())?,
-        items: Vec::from_slice(alloc, names.items.as_slice())?,
-        closed: Vec::new(alloc),
-        whole: Vec::new(alloc),
-    })
-}
 
 /// Returns the position of the first line whose call has no part on a scope.
 fn first_without(scope: &Scope, lines: &[Line<ValidTask>]) -> Option<usize>
@@ -47,7 +34,7 @@ fn line_without(alloc: Global, names: &Names, lines: &[Line<ValidTask>]) -> Resu
     ensures { IfOk result (IsFirstWithout names.now.customers.items names.now.items.items
         (spec.calls_of lines.now)) }
 {
-    let scope = open_scope(alloc, names)?;
+    let scope = Scope::open(alloc, names)?;
     match first_without(&scope, lines) {
         Some(place) => Ok(place as u64 + 1),
         None => unreachable!(),

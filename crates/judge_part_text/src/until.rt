@@ -12,7 +12,6 @@ ghost use Rattle.judge_part_text.specs.Until.{end_at, had_part, IsTextThen};
 ghost use Rattle.judge_part_text.specs.Until.{IsTextUntil, IsCutTextFor};
 ghost use Rattle.judge_part_text.specs.Until.{HasPartedUntil, HasStoppedPartingUntil};
 
-use crate::parting::open_scope;
 use crate::printing::print_calls;
 use crate::reading::{Reading, read_history};
 use judge_calls::{Verdict, read_all};
@@ -100,7 +99,7 @@ fn text_then(
     ensures { IfOk result (λ found. IsTextThen names.now.customers.items names.now.items.items
         moment (spec.calls_of lines.items) found.0 found.1.items) }
 {
-    let scope = open_scope(alloc, names)?;
+    let scope = Scope::open(alloc, names)?;
     let first = first_without(&scope, moment, lines.as_slice());
     let cut = cut_lines(alloc, moment, lines)?;
     if let Some(text) = text_of_part(alloc, names, cut.as_slice())? {

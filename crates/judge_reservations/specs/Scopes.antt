@@ -1,5 +1,5 @@
 -- Scopes: some customers and some items of the reservation system.
-use Rattle.std.specs.Prelude.{◌≡◌, ℕ, Bool, true, List, ◌==◌, ◌&&◌, ◌||◌, not}
+use Rattle.std.specs.Prelude.{◌≡◌, ℕ, Bool, true, List, [], ◌==◌, ◌&&◌, ◌||◌, not}
 use Rattle.std.specs.List.{list_any}
 use Rattle.vac_model.specs.State.{Place, kind_number}
 use Rattle.judge_reservations.specs.declared.scope.Scope.{Scope}
@@ -34,6 +34,13 @@ abbrev pub allows : Scope → ℕ → Place → Bool
 allows scope c place =
     (has_customer scope c || not (is_closed scope place))
     && (has_item scope place || not (is_whole scope c))
+
+-- the scope of these customers and items on which no item is closed and no customer is whole
+pub record IsOpen (customers : List ℕ) (items : List Place) (scope : Scope) : Type 0 where
+  pub customers_are : scope.customers.items ≡ customers
+  pub items_are : scope.items.items ≡ items
+  pub closed : scope.closed.items ≡ []
+  pub whole : scope.whole.items ≡ []
 
 -- the first scope has the customers and the items of the second scope, and no closed items and no
 -- whole customers but those of the second scope. So a part on the first scope says no more

@@ -1,8 +1,10 @@
 //! Names and scopes.
 
-ghost use Rattle.std.specs.Prelude.{◌≡◌};
+ghost use Rattle.std.specs.Prelude.{◌≡◌, IfOk};
 ghost use Rattle.judge_reservations.specs.Scopes as spec;
+ghost use Rattle.judge_reservations.specs.Scopes.{IsOpen};
 
+use std::alloc::{AllocError, Global};
 use vac_model::Kind;
 
 /// The customers and items that a scope is made of, without those that are closed or whole.
@@ -28,6 +30,19 @@ pub struct Scope {
 }
 
 impl Scope {
+    /// Returns the scope of some names on which no item is closed and no customer is whole.
+    pub fn open(alloc: Global, names: &Names) -> Result<Scope, AllocError>
+        ensures { IfOk result (λ scope.
+            IsOpen names.now.customers.items names.now.items.items scope) }
+    {
+        Ok(Scope {
+            customers: Vec::from_slice(alloc, names.customers.as_slice())?,
+            items: Vec::from_slice(alloc, names.items.as_slice())?,
+            closed: Vec::new(alloc),
+            whole: Vec::new(alloc),
+        })
+    }
+
     /// Returns whether a customer belongs to the scope.
     pub fn has_customer(&self, customer: u32) -> bool
         ensures { result ≡ spec.has_customer self.now customer }
