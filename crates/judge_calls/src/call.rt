@@ -1,20 +1,22 @@
 //! Reading a line of a history: its call, or its first fault.
 
-ghost use Rattle.std.specs.Prelude.{◌≡◌, ◌≢◌, true, false, is_none, IfOk, IfErr, Ok, Err};
+ghost use Rattle.std.specs.Prelude.{◌≡◌, ◌≢◌, ◌<◌, ◌^◌, true, false, is_none, IfOk, IfErr, Ok, Err};
 ghost use Rattle.std.specs.Option.{option_copied};
 ghost use Rattle.vac_model.specs.Ranges.{is_task};
 ghost use Rattle.judge_calls.specs.Call.{line_call, parts_call, whole_call, lacks_reply};
 ghost use Rattle.judge_calls.specs.Call.{at_client, at_time, at_end, reply_at, is_no_end, is_no_reply};
 ghost use Rattle.judge_object.specs.Call.{span_of, is_completed};
+ghost use Rattle.judge_object.specs.Rules.{given_text};
+ghost use Rattle.judge_reservations.specs.Lines.{call_of};
 ghost use Rattle.judge_calls.specs.Parts.{shown_parts, shown_call, shown_end};
 
 use crate::arrow::{CallParts, cut_parts};
 use crate::call_line::CallLine;
 use crate::fault::CallFault;
-use judge_object::{NEVER, Span};
-use std::alloc::Global;
+use judge_object::{Line, NEVER, Span};
+use std::alloc::{AllocError, Global};
 use vac_lines::{LineFault, has_bad_byte, read_client, read_line, read_memory_word};
-use vac_model::Task;
+use vac_model::ValidTask;
 
 /// Largest number of bytes of a line of a history, without its line end.
 pub const CALL_BYTES: usize = 4096;
@@ -52,6 +54,43 @@ impl CallLine<'_> {
             begin: self.begin,
             end: self.end_or_never(),
         }
+    }
+
+    /// Returns the call as a line of a history with this number and this text.
+    pub fn into_line(
+        self,
+        alloc: Global,
+        number: u64,
+        text: &[u8],
+    ) -> Result<Line<ValidTask>, AllocError>
+        requires { is_task self.task ≡ true }
+        ensures number { IfOk result (λ line. line.number ≡ number) }
+        ensures text { IfOk result (λ line. line.text.items ≡ text.now) }
+        ensures call { IfOk result (λ line. call_of line ≡ shown_call self.entry) }
+        ensures begun { IfOk result (λ _. self.entry.begin < 2 ^ 64) }
+    {
+        let end = self.end_or_never();
+        let reply = copied_reply(alloc, self.reply)?;
+        Ok(Line {
+            number,
+            text: Vec::from_slice(alloc, text)?,
+            client: self.client,
+            begin: self.begin,
+            end,
+            op: ValidTask::new(self.task),
+            reply,
+            soonest: self.begin,
+        })
+    }
+}
+
+/// Returns a copy of the text of a reply, or `None` if the reply is not known.
+fn copied_reply(alloc: Global, given: Option<&[u8]>) -> Result<Option<Vec<u8>>, AllocError>
+    ensures { IfOk result (λ reply. given_text reply ≡ option_copied given.entry) }
+{
+    match given {
+        Some(text) => Ok(Some(Vec::from_slice(alloc, text)?)),
+        None => Ok(None),
     }
 }
 

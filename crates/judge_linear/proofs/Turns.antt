@@ -18,7 +18,7 @@ use Rattle.judge_object.specs.declared.line.Line.{Line}
 use Rattle.judge_linear.specs.declared.history.History.{History}
 use Rattle.judge_search.specs.Walk.{InTurn, IsTimed}
 use Rattle.judge_search.specs.Calls.{call_of, calls_of}
-use Rattle.judge_linear.specs.Reading.{calls_overlap, AreNumbered, began_before, KeepsEnds, IsHeld, IsLineOf}
+use Rattle.judge_linear.specs.Reading.{calls_overlap, AreNumbered, began_before, KeepsEnds, IsHeld}
 use Rattle.judge_linear.specs.Reading.{Took}
 use Rattle.judge_linear.specs.Reading.{texts_of}
 use Rattle.std.specs.Prelude.{◌-◌, ◌^◌}
@@ -166,13 +166,14 @@ said_none ends calls c k l e = sym (said_of ends calls c k l ∙ ap (λ o. fits_
 -- a call that is in turn was taken
 pub took : (before after : History) (text : List ℕ) (c : Call) (l : Line Task) (n : ℕ) → IsHeld before →
     after.ends ≡ insert before.ends c.client c.end
-    → n ≡ length before.lines.items + 1 → IsLineOf n text c l → after.lines.items ≡ before.lines.items ++ l ∷ [] →
+    → n ≡ length before.lines.items + 1 → l.number ≡ n → l.text.items ≡ text → call_of l ≡ c →
+    after.lines.items ≡ before.lines.items ++ l ∷ [] →
     call_breaks_client (calls_of before.lines.items) c ≡ false
     → IsTimed (2 ^ 64 - 1) c → Took before after text c
-took before after text c l n h e m i p f t =
+took before after text c l n h e m number_is text_is call_is p f t =
     let calls : calls_of after.lines.items ≡ calls_of before.lines.items ++ c ∷ [] =
     ap calls_of p ∙ map-append call_of before.lines.items (l ∷ []) ∙
-    ap (λ d. calls_of before.lines.items ++ d ∷ []) i.call_is in
+    ap (λ d. calls_of before.lines.items ++ d ∷ []) call_is in
     record {
       fits = f;
       held = record {
@@ -182,11 +183,10 @@ took before after text c l n h e m i p f t =
         turn = subst InTurn (sym calls) (turn_more (calls_of before.lines.items) c h.turn f);
         timed = subst (EachCall (IsTimed (2 ^ 64 - 1))) (sym calls)
             (each_more (IsTimed (2 ^ 64 - 1)) (calls_of before.lines.items) c h.timed t);
-        numbered = subst (AreNumbered 1) (sym p) (numbered_more 1 before.lines.items l h.numbered (let own =
-            i.number_is in omega arith));
+        numbered = subst (AreNumbered 1) (sym p) (numbered_more 1 before.lines.items l h.numbered (omega arith));
       };
       texts = ap texts_of p ∙ map-append (λ (x : Line Task). x.text.items) before.lines.items (l ∷ []) ∙
-          ap (λ u. texts_of before.lines.items ++ u ∷ []) i.text_is;
+          ap (λ u. texts_of before.lines.items ++ u ∷ []) text_is;
       calls = calls;
     }
 

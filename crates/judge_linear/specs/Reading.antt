@@ -50,12 +50,6 @@ first_wrong bytes = wrong_behind [] (map line_call (lines_of bytes))
 abbrev pub texts_of : List (Line Task) → List (List ℕ)
 texts_of lines = map (λ line. line.text.items) lines
 
--- a line has this number, this text and this call
-pub record IsLineOf (number : ℕ) (text : List ℕ) (call : Call) (line : Line Task) : Type 0 where
-  pub number_is : line.number ≡ number
-  pub text_is : line.text.items ≡ text
-  pub call_is : call_of line ≡ call
-
 -- the lines are numbered consecutively from this number on
 abbrev pub AreNumbered : ℕ → List (Line Task) → Type 0
 AreNumbered number [] = ⊤

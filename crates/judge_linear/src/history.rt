@@ -1,13 +1,11 @@
 //! The calls of a history while it is read, each client's in turn.
 
-ghost use Rattle.std.specs.Prelude.{◌≡◌, ◌<◌, ◌^◌, true, [], not, IfOk, MatchBool};
-ghost use Rattle.std.specs.Option.{option_copied};
+ghost use Rattle.std.specs.Prelude.{◌≡◌, true, [], not, IfOk, MatchBool};
 ghost use Rattle.vac_model.specs.Ranges.{is_task};
-ghost use Rattle.judge_object.specs.Rules.{given_text};
 ghost use Rattle.judge_calls.specs.Order.{call_breaks_client};
 ghost use Rattle.judge_calls.specs.Parts.{shown_call};
 ghost use Rattle.judge_search.specs.Calls.{calls_of};
-ghost use Rattle.judge_linear.specs.Reading.{IsHeld, IsLineOf, Took};
+ghost use Rattle.judge_linear.specs.Reading.{IsHeld, Took};
 
 use judge_calls::CallLine;
 use judge_object::{Ends, Line};
@@ -20,42 +18,6 @@ use vac_model::ValidTask;
 pub(crate) struct History {
     pub(crate) lines: Vec<Line<ValidTask>>,
     pub(crate) ends: Ends,
-}
-
-/// Returns a copy of the text of a reply, or `None` if the reply is not known.
-fn reply_of(alloc: Global, given: Option<&[u8]>) -> Result<Option<Vec<u8>>, AllocError>
-    ensures { IfOk result (λ reply. given_text reply ≡ option_copied given.entry) }
-{
-    match given {
-        Some(text) => Ok(Some(Vec::from_slice(alloc, text)?)),
-        None => Ok(None),
-    }
-}
-
-/// Makes the line with this number and text from its call.
-fn line_of(
-    alloc: Global,
-    number: u64,
-    text: &[u8],
-    call: CallLine<'_>,
-) -> Result<Line<ValidTask>, AllocError>
-    requires { is_task call.task ≡ true }
-    ensures line { IfOk result (λ line.
-        IsLineOf number text.now (shown_call call.entry) line) }
-    ensures begun { IfOk result (λ _. call.entry.begin < 2 ^ 64) }
-{
-    let end = call.end_or_never();
-    let reply = reply_of(alloc, call.reply)?;
-    Ok(Line {
-        number,
-        text: Vec::from_slice(alloc, text)?,
-        client: call.client,
-        begin: call.begin,
-        end,
-        op: ValidTask::new(call.task),
-        reply,
-        soonest: call.begin,
-    })
 }
 
 impl History {
@@ -105,7 +67,7 @@ impl History {
         let number = self.lines.len() as u64 + 1;
         let client = call.client;
         let end = call.end_or_never();
-        let line = line_of(alloc, number, text, call)?;
+        let line = call.into_line(alloc, number, text)?;
         self.ends.insert(client, end)?;
         self.lines.push(line)?;
         Ok(true)

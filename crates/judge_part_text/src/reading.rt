@@ -1,15 +1,10 @@
 //! Reading the calls of a history, in whatever order.
 
-ghost use Rattle.std.specs.Prelude.{◌≡◌, ◌∷◌, ◌<◌, [], true, IfOk, MatchOption, length};
-ghost use Rattle.std.specs.Option.{option_copied};
-ghost use Rattle.vac_model.specs.Ranges.{is_task};
+ghost use Rattle.std.specs.Prelude.{◌≡◌, ◌∷◌, ◌<◌, [], IfOk, MatchOption, length};
 ghost use Rattle.vac_lines.specs.Lines.{lines_of};
-ghost use Rattle.judge_object.specs.Rules.{given_text};
-ghost use Rattle.judge_calls.specs.Parts.{shown_call};
-ghost use Rattle.judge_reservations.specs.Lines.{call_of};
 ghost use Rattle.judge_part_text.specs.Reading.{IsReadLine, IsReadingOf};
 
-use judge_calls::{CallFault, CallLine, read_call};
+use judge_calls::{CallFault, read_call};
 use judge_object::Line;
 use std::alloc::{AllocError, Global};
 use vac_lines::{LineFault, cut_at};
@@ -24,36 +19,8 @@ pub(crate) enum Reading {
     Damaged(u64, CallFault),
 }
 
-/// Returns a copy of the text of a reply, or `None` if the reply is not known.
-fn copy_reply(alloc: Global, given: Option<&[u8]>) -> Result<Option<Vec<u8>>, AllocError>
-    ensures { IfOk result (λ reply. given_text reply ≡ option_copied given.entry) }
-{
-    match given {
-        Some(text) => Ok(Some(Vec::from_slice(alloc, text)?)),
-        None => Ok(None),
-    }
-}
-
-/// Makes the line with this number from its call, without a text.
-fn line_of(alloc: Global, number: u64, call: CallLine<'_>) -> Result<Line<ValidTask>, AllocError>
-    requires { is_task call.task ≡ true }
-    ensures { IfOk result (λ line. call_of line ≡ shown_call call.entry) }
-{
-    let end = call.end_or_never();
-    let reply = copy_reply(alloc, call.reply)?;
-    Ok(Line {
-        number,
-        text: Vec::new(alloc),
-        client: call.client,
-        begin: call.begin,
-        end,
-        op: ValidTask::new(call.task),
-        reply,
-        soonest: call.begin,
-    })
-}
-
-/// Reads the line with this number as a call, or finds its first fault.
+/// Reads the line with this number as a call, or finds its first fault. The line that is returned
+/// has no text.
 fn read_line(
     alloc: Global,
     number: u64,
@@ -62,7 +29,7 @@ fn read_line(
     ensures { IfOk result (λ read. IsReadLine text.now read) }
 {
     match read_call(alloc, text) {
-        Ok(call) => Ok(Ok(line_of(alloc, number, call)?)),
+        Ok(call) => Ok(Ok(call.into_line(alloc, number, b"")?)),
         Err(CallFault::Line(LineFault::Memory)) => Err(AllocError),
         Err(fault) => Ok(Err(fault)),
     }

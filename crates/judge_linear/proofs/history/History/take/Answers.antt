@@ -15,7 +15,8 @@ returns c = λ held.
     let number : c.len.result ≡ length before.lines.items = c.len.ensures ∙ before.lines.ok.0 in
     took before after c.args.text.now (shown_call call) c.in_ok-line.line (c.len.result + 1) held
     (c.in_ok-insert.ensures ∙ ap (λ e. insert before.ends call.client e) c.end_or_never-end.ensures)
-    (omega arith) c.in_ok-line.ensures.line c.in_ok-push.ensures.items
+    (omega arith) c.in_ok-line.ensures.number c.in_ok-line.ensures.text c.in_ok-line.ensures.call
+    c.in_ok-push.ensures.items
     (not_true (call_breaks_client (calls_of before.lines.items) (shown_call call))
     (sym (c.is_in_turn.ensures held) ∙ c.if-not-is_in_turn.false))
     (timed_of call c.in_ok-line.ensures.begun)
