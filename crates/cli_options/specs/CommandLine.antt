@@ -132,7 +132,7 @@ file_option = valued_option (codes "tasks")
 abbrev pub flag : Text → Rule
 flag name = record (new_rule name) { long = Some name; action = Some SetTrue }
 
--- `--steps`: largest number of steps of a search
+-- `--steps`: largest number of steps of a search of all calls
 abbrev pub steps_option : Rule
 steps_option = any_number_option (codes "steps") (codes "10000000")
 

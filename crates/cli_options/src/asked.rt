@@ -52,7 +52,10 @@ pub struct LoadOutput {
 pub struct SearchSettings {
     /// The level of consistency that the order shows.
     pub level: Level,
-    /// Largest number of steps.
+    /// Largest number of steps of the exact search of all calls, and of each quick search of them.
+    /// At a level below linearizability the exact search of the history as it is given and the
+    /// exact search at the level share the steps. The exact search of a part makes at most as many
+    /// for each end that is tried.
     pub steps: u64,
     /// True if the search reports its progress.
     pub progress: bool,

@@ -235,7 +235,7 @@ fn add_searching_options<'a>(alloc: Global, command: Made<'a>) -> Made<'a>
     ensures { GetsOptions command.entry searching_options result }
 {
     let steps = any_number_option(alloc, "steps", "10000000").help(
-        "Most steps of each of the two searches",
+        "Most steps of the exact search of all calls, and of each quick search of them",
     );
     let progress = flag(alloc, "progress").help(
         "Reports the progress of the search on standard error, at most twice a second",
