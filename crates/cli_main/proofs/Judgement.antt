@@ -64,7 +64,7 @@ judge_stopped blocks stream.Memory unread left held middle holds none line =
 judge_stopped blocks stream.Bound unread left held middle holds none line =
     inr (named_stream stream.Bound (λ e. absurd cc) held middle holds none line)
 
--- the same of a history that is held against work
+-- as `judge_stopped`, for a history that is checked against a workload
 pub work_stopped : (tasks rest : Option (List ℕ)) (blocks : ℕ) (fault : StreamFault)
     (unread left held middle holds : Option (List ℕ)) → HasStoppedChecking blocks fault tasks rest unread left held
     middle
@@ -357,7 +357,7 @@ none_in_slice blocks steps status unread left rest held holds bytes shown read i
         )
         part (inr n) = inr n
 
--- a history was judged and held against work
+-- a history was judged and checked against a workload
 pub held_judged : (tasks rest : Option (List ℕ)) (blocks : ℕ) (r : Result Bool StreamFault) (status : ℕ)
     (unread left held middle holds : Option (List ℕ))
     → IfOk r (λ legal. HasChecked blocks legal tasks rest unread left held middle)

@@ -20,9 +20,9 @@ use Rattle.load_run.specs.Streams.{KeptBySeed}
 use Rattle.load_run.specs.declared.summary.LoadSummary.{LoadSummary}
 use Rattle.cli_main.specs.Load.{calls_in, calls_kept, IsEmpty, HasAllAttempts, AreNoted}
 
--- what keepers keep
+-- the contents of recorders
 module _ {X : Type 0} (notes : X → RecorderContents) where
-  -- what an empty keeper kept are notes of exactly those records
+  -- the calls in a recorder that was empty are notes of exactly these records
   its_calls : (attempts : ℕ) (records : List Record) (aborts : List Aborted) (before after : X) →
       IsEmpty (notes before) → (k : AreKept attempts records aborts (notes before) (notes after)) →
       calls_kept (notes after) ≡ k.between.notes
@@ -37,7 +37,7 @@ module _ {X : Type 0} (notes : X → RecorderContents) where
   are_noted attempts records aborts before after empty k = subst (λ l. Paired IsNoted l records)
       (sym (its_calls attempts records aborts before after empty k)) k.between.are_of
 
-  -- and what it traced are all attempts
+  -- the traces in such a recorder are those of all attempts
   are_traced : (image : List ℕ) (history : List Record) (attempts : ℕ) (records : List Record) (aborts : List Aborted)
       (before after : X) → IsEmpty (notes before) → HaveRead image history aborts →
       AreKept attempts records aborts (notes before) (notes after) → HasAllAttempts image history attempts (notes after)
@@ -108,7 +108,7 @@ module _ {X : Type 0} (notes : X → RecorderContents) where
         clients = others.1;
       }
 
--- as many keepers come back as went in
+-- as many recorders come back as went in
 same_number : {X : Type 0} (attempts_of : X → ℕ) (records_of : X → List Record) (aborts_of : X → List Aborted)
     (xs : List X) (ks ks' : List RecorderContents) → AllKept attempts_of records_of aborts_of xs ks ks' →
     length ks' ≡ length ks

@@ -64,7 +64,7 @@ fn judge_with<F: Read + Drop, R: Read, W: Write>(
     }
 }
 
-/// Ends the program if the file of the tasks was not opened, and returns the status.
+/// Writes the last line after an error in opening the file of the tasks, and returns the status.
 fn end_unopened_by<W: Write>(error: &io::Error, output: &mut W) -> u8
     ensures { NotOpened result (W.contents output.old) (W.contents output.new) }
 {

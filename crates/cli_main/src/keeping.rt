@@ -57,7 +57,7 @@ pub(crate) trait Transcript<W>: Recorder + Sized {
     fn are_whole(recorders: &Recorders<Self>) -> bool
         ensures { result ≡ are_whole recorders.now };
 
-    /// Writes the calls of a load, or the last line of a fault, and returns the status.
+    /// Writes the calls of a load, or the last line after a fault, and returns the status.
     fn write<O: Write>(load: &KeptLoad<'_, Self>, output: &mut O) -> u8
         requires fits { is_settings load.now.settings.now ≡ true }
         requires noted { AreNoted (contents Self.notes Self.traced Self.latest)

@@ -13,8 +13,8 @@ use std::fmt;
 use std::fmt::{Display, Formatter};
 use std::io::Write;
 
-/// Largest number of calls or attempts that are watched if no figures are asked for. Watching so
-/// many takes less than two megabytes.
+/// Largest number of calls or attempts that are watched if no figures are asked for. Watching this
+/// number of them takes less than two megabytes.
 const MOST_UNASKED: usize = 1 << 14;
 
 /// Returns the largest number of calls or attempts that are watched.
@@ -114,7 +114,9 @@ pub(crate) fn report_calls<E: Write>(
     write_text(alloc, report, errors);
 }
 
-/// As `report_calls`, for a log of attempts.
+/// Writes the report on a log of attempts to `errors`: the figures if they are asked for, and the
+/// warning if the status is that of a positive verdict. Writes nothing if memory is refused; a
+/// failed write changes nothing.
 pub(crate) fn report_attempts<E: Write>(
     alloc: Global,
     stats: bool,

@@ -177,8 +177,8 @@ fn without_output(fault: StreamFault) -> StreamFault
     }
 }
 
-/// Returns the lines of a history in an order of a level that is found. If none is found, writes
-/// the outcome, or names a fault, and the error is the status.
+/// Searches for an order of a history's calls at a level, and returns the lines in this order. If
+/// no order is found, writes the outcome or the line of a fault; the error is the status.
 #[tactic(auto, using(crate::proofs::Judgement::kept, crate::proofs::Judgement::unordered))]
 fn order_kept<R: Read, W: Write, V: Watcher>(
     alloc: Global,

@@ -14,17 +14,17 @@ use std::fmt::Display;
 use std::io::Write;
 use vac_lines::{StreamFault, print, write_and_flush};
 
-/// Status of a program that did its work or showed its help.
+/// Status of a program that did its work, gave a positive verdict, or showed its help or version.
 pub(crate) const DONE: u8 = 0;
 
-/// Status of a program that met a fault.
+/// Status of a program that met a fault or gave a negative verdict.
 pub(crate) const FAULT: u8 = 1;
-
-/// Status of a program that did not decide within its steps.
-pub(crate) const UNDECIDED: u8 = 3;
 
 /// Status of a program whose command line was refused.
 pub(crate) const REFUSED: u8 = 2;
+
+/// Status of a program that did not decide within its steps.
+pub(crate) const UNDECIDED: u8 = 3;
 
 /// Writes a text to one of the program's outputs. If the write fails, the rest of the text is lost.
 #[tactic(auto, using(crate::proofs::Ending::either_way))]
@@ -83,7 +83,7 @@ pub(crate) fn end_by<W: Write>(fault: StreamFault, output: &mut W) -> u8
     }
 }
 
-/// Ends the program after its work, and returns the status.
+/// Writes the last line after a fault, and returns the status: 0 if the work was done.
 pub(crate) fn end_done<W: Write>(done: Result<(), StreamFault>, output: &mut W) -> u8
     ensures { EndsDone done result (W.contents output.old) (W.contents output.new) }
 {
@@ -93,7 +93,7 @@ pub(crate) fn end_done<W: Write>(done: Result<(), StreamFault>, output: &mut W) 
     }
 }
 
-/// Ends the program after a judgement, and returns the status: 0 if the verdict is positive.
+/// Writes the last line after a fault, and returns the status: 0 if the verdict is positive.
 pub(crate) fn end_judged<W: Write>(judged: Result<bool, StreamFault>, output: &mut W) -> u8
     ensures { EndsJudged judged result (W.contents output.old) (W.contents output.new) }
 {
@@ -157,8 +157,8 @@ fn tell_settings<E: Write>(alloc: Global, settings: &Settings, errors: &mut E) {
     );
 }
 
-/// Ends a load whose settings do not fit each other, writes to `errors` which of them, and returns
-/// the status of a refused command line.
+/// Writes the last line of a load whose settings do not fit each other, writes to `errors` which of
+/// them, and returns the status of a refused command line.
 pub(crate) fn end_by_settings<W: Write, E: Write>(
     alloc: Global,
     settings: &Settings,

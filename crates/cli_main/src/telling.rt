@@ -142,8 +142,8 @@ fn all_tasks(settings: &Settings) -> u64
 /// the command line asks for progress, writes the number of completed tasks to `errors` while the
 /// load runs, at most twice a second.
 ///
-/// If no thread can be started for the progress lines, the load runs and none is written: a join
-/// then runs its second closure first.
+/// If no thread can be started for the progress lines, the load runs and no line is written:
+/// `join_mut` then runs the load first, and the writer of the lines finds that the load has ended.
 pub(crate) fn run_with_progress<
     T: Threads + Wait + Clock + Sync + AllocGlobal,
     K: Recorder + Send + Drop,

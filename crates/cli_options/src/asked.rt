@@ -114,7 +114,7 @@ pub enum Request<'a> {
     Judge(JudgeSettings<'a>),
     /// Finds an order of a history of a system of this many blocks.
     Order(u32, SearchSettings),
-    /// Judges a history, or finds an order of one, at a level whose word names none.
+    /// Refuses `judge` or `order`, because the word for the level names none.
     UnknownLevel,
     /// Judges attempts.
     Opaque(OpacitySettings),

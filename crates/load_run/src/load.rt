@@ -44,8 +44,8 @@ pub enum LoadFault {
     /// A thread could not be started. The threads that had been started were joined first.
     #[error("a thread could not be started")]
     Spawn,
-    /// A command of the setup phase was refused, because memory was refused or because the clock
-    /// was at the last version of the settings.
+    /// A call of the setup phase met a fault: memory was refused, or the clock was at the last
+    /// version of the settings.
     #[error("the opening stopped: {0}")]
     Opening(Fault),
 }
