@@ -201,8 +201,8 @@ pub ran_more : {W D : Type 0} (leads : D → ℕ → D → Type 0) (shown_of : W
     ready.user.value.records ≡ r.client.value.records →
     all_aborted ready.user.value ≡ all_aborted r.client.value → r.manager.renewal < ready.shared.renewal →
     RoundHasRun leads shown_of s s.tasks ready r.slots.items more →
-    t.outcomes ≡ plus r.outcomes.outcomes more.outcomes.outcomes →
-    t.attempts ≡ r.outcomes.attempts + more.outcomes.attempts →
+    t.outcomes ≡ plus r.counts.outcomes more.counts.outcomes →
+    t.attempts ≡ r.counts.attempts + more.counts.attempts →
     RanAll leads s shown_of ((rounds + 1) * s.tasks) y.shared.renewal more.manager.renewal y.user.value.records slots
     more.client.value.records more.slots.items t.outcomes t.attempts (all_aborted y.user.value)
     (all_aborted more.client.value)
@@ -217,20 +217,20 @@ ran_more leads shown_of s rounds y ready slots r more t h same kept less k e f =
     let mid = all_aborted r.client.value in
     let new = all_aborted more.client.value in
     let next : RanAll leads s shown_of s.tasks ready.shared.renewal to middle r.slots.items last more.slots.items
-    more.outcomes.outcomes more.outcomes.attempts mid new =
+    more.counts.outcomes more.counts.attempts mid new =
     subst (λ (l : List Aborted). RanAll leads s shown_of s.tasks ready.shared.renewal to middle r.slots.items last
-    more.slots.items more.outcomes.outcomes more.outcomes.attempts l new) kept
+    more.slots.items more.counts.outcomes more.counts.attempts l new) kept
     (subst (λ (l : List Record). RanAll leads s shown_of s.tasks ready.shared.renewal to l r.slots.items last
-    more.slots.items more.outcomes.outcomes more.outcomes.attempts (all_aborted ready.user.value) new) same k) in
+    more.slots.items more.counts.outcomes more.counts.attempts (all_aborted ready.user.value) new) same k) in
     subst (λ (j : ℕ). RanAll leads s shown_of j from to first slots last more.slots.items t.outcomes t.attempts old new)
     n
     (subst (λ (u : Outcomes). RanAll leads s shown_of (rounds * s.tasks + s.tasks) from to first slots last
     more.slots.items u t.attempts old new) (sym e)
     (subst (λ (j : ℕ). RanAll leads s shown_of (rounds * s.tasks + s.tasks) from to first slots last
-    more.slots.items (plus r.outcomes.outcomes more.outcomes.outcomes) j old new) (sym f)
+    more.slots.items (plus r.counts.outcomes more.counts.outcomes) j old new) (sym f)
     (ran_both leads s shown_of (rounds * s.tasks) s.tasks from r.manager.renewal ready.shared.renewal to less
     first middle last slots r.slots.items more.slots.items
-    r.outcomes.outcomes more.outcomes.outcomes r.outcomes.attempts more.outcomes.attempts old mid new h next)))
+    r.counts.outcomes more.counts.outcomes r.counts.attempts more.counts.attempts old mid new h next)))
 
 -- tallies of so many tasks each
 total_of : {D P : Type 0} (leads : D → ℕ → D → Type 0) (s : Settings) (shown_of : P →

@@ -133,7 +133,7 @@ pub loaded_kept : {D G K : Type 0} (leads : D → ℕ → D → Type 0) (notes :
     end.manager.first ≡ y.shared.first →
     ClosesSomewhere end.manager end.client.value words →
     ((x : State) → Shows words x → report x ≡ r) →
-    LoadedKept leads s (λ slot. slot.draws) state slots end.outcomes.outcomes r end.outcomes.attempts before kept
+    LoadedKept leads s (λ slot. slot.draws) state slots end.counts.outcomes r end.counts.attempts before kept
     (kept_at notes slots)
     (kept_at notes end.slots.items)
 loaded_kept leads notes s state last slots y end before kept words r n opened keeps all versioned size first closed
@@ -180,7 +180,7 @@ loaded_kept leads notes s state last slots y end before kept words r n opened ke
         each_once = once_drawn all.shares all.rest all.each_once;
         tallies = all.tallies ∙ sym (tallies_drawn all.shares);
         all = ran_total leads s (shown notes) n_of from to y.user.value.records after.records slots left
-            end.outcomes.outcomes end.outcomes.attempts old new all ∙
+            end.counts.outcomes end.counts.attempts old new all ∙
             (ap (λ (k : ℕ). k * (s.rounds * s.tasks)) n ∙ count);
         alone = λ one. all.alone (n ∙ one);
         in_time = λ one time. all.in_time (n ∙ one) time;

@@ -102,7 +102,7 @@ pub did : {W D : Type 0} (leads : D → ℕ → D → Type 0) (shown_of : W →
     SlotShown D) (s : Settings) (manager : RegionShown)
     (floor : ℕ) (before : List Record) (slot : W) (w : Worker W) (r : Worker W) →
     IsWorker manager before floor slot w → DidWork leads shown_of s w r →
-    Did leads s manager.renewal floor before (shown_of slot) (shown_of r.slot) r.caller.user r.outcomes
+    Did leads s manager.renewal floor before (shown_of slot) (shown_of r.slot) r.caller.user r.counts
 did leads shown_of s manager floor before slot w r h k =
     let y = w.caller in
     let y' = r.caller in
@@ -130,19 +130,19 @@ did leads shown_of s manager floor before slot w r h k =
           number = l.number;
           are_of = a.are_of;
           all = l.all;
-          least = at_least y.user.value.attempt.number r.outcomes.attempts y'.user.value.attempt.number _ k.attempts
+          least = at_least y.user.value.attempt.number r.counts.attempts y'.user.value.attempt.number _ k.attempts
               l.attempts;
         };
         low = y.user.value.floor;
         high = y'.user.value.floor;
         kept = subst (λ (x : SlotShown _). AreKeptBetween (reader_at manager.renewal y.user.value.floor)
-            (reader_at manager.renewal y'.user.value.floor) r.outcomes.attempts a.added k.kept.aborts x.kept left.kept)
+            (reader_at manager.renewal y'.user.value.floor) r.counts.attempts a.added k.kept.aborts x.kept left.kept)
             same
             (subst (λ (m : RegionShown). AreKeptBetween (reader_at m.renewal y.user.value.floor)
-            (reader_at m.renewal y'.user.value.floor) r.outcomes.attempts a.added k.kept.aborts
+            (reader_at m.renewal y'.user.value.floor) r.counts.attempts a.added k.kept.aborts
             (shown_of w.slot).kept left.kept)
             h.manager_is
-            (kept_added y.shared.renewal y.user.value y'.user.value r.outcomes.attempts a.added (shown_of w.slot).kept
+            (kept_added y.shared.renewal y.user.value y'.user.value r.counts.attempts a.added (shown_of w.slot).kept
             left.kept a.records k.attempts k.kept));
       };
     }
@@ -194,11 +194,11 @@ module _ {W D : Type 0} (leads : D → ℕ → D → Type 0) (shown_of : W → S
     (s : Settings) (opener : CallerShown) where
   -- how the tasks ended
   abbrev tally_of : Worker W → Outcomes
-  tally_of r = r.outcomes.outcomes
+  tally_of r = r.counts.outcomes
 
   -- the number of attempts
   abbrev attempts_of : Worker W → ℕ
-  attempts_of r = r.outcomes.attempts
+  attempts_of r = r.counts.attempts
 
   -- the records of the client
   abbrev records_of : Worker W → List Record
@@ -264,7 +264,7 @@ module _ {W D : Type 0} (leads : D → ℕ → D → Type 0) (shown_of : W → S
   record Round (slots : List W) (crew : Crew W) (done : Crew W) (all : List Record)
       (h : IsCrew opener s.tries slots crew) : Type 0 where
     mine : Did leads s opener.shared.renewal opener.user.value.floor opener.user.value.records
-        (shown_of h.slot) (shown_of done.first.slot) done.first.caller.user done.first.outcomes
+        (shown_of h.slot) (shown_of done.first.slot) done.first.caller.user done.first.counts
     more : Shared opener.user.value.floor h.rest done.others.items
     behind : all ≡ opener.user.value.records
         ++ all_merged (λ (x : Share (SlotShown D)). x.records) mine.added more.shares

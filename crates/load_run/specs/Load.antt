@@ -67,7 +67,7 @@ pub record RanTasks {W D : Type 0} (leads : D → ℕ → D → Type 0) (shown_o
 abbrev pub DidWork : {W D : Type 0} → (D → ℕ → D → Type 0) → (W → SlotShown D) → Settings
     → Worker W → Worker W → Type 0
 DidWork leads shown_of s w d =
-    RanTasks leads shown_of s w.caller w.slot d.caller d.slot d.outcomes
+    RanTasks leads shown_of s w.caller w.slot d.caller d.slot d.counts
 
 -- each worker of a crew ran its tasks of a round; the workers stay in their order
 pub record DidAllWork {W D : Type 0} (leads : D → ℕ → D → Type 0) (shown_of : W → SlotShown D)
@@ -123,23 +123,23 @@ pub record IsCrew {W : Type 0} (opener : CallerShown) (tries : ℕ) (slots : Lis
       rest crew.others.items
   pub grants : crew.first.caller.user.value.grants + vec_len crew.others ≡ MOST_GRANTS
   pub others_grants : All (λ w. w.caller.user.value.grants ≡ 0) crew.others.items
-  pub outcomes : crew.first.outcomes ≡ uncounted tries
+  pub counts : crew.first.counts ≡ uncounted tries
   pub aborted : all_aborted crew.first.caller.user.value ≡ all_aborted opener.user.value
-  pub others_tallies : All (λ w. w.outcomes ≡ uncounted tries) crew.others.items
+  pub others_counts : All (λ w. w.counts ≡ uncounted tries) crew.others.items
 
 -- the first worker can gather this one: it calls the same manager, it has no grants,
 -- and its counts can be added
 pub record IsMember {W : Type 0} (first w : Worker W) : Type 0 where
   pub one : w.caller.shared ≡ first.caller.shared
   pub grants : w.caller.user.value.grants ≡ 0
-  pub tasks : total w.outcomes.outcomes ≤ MOST_TASKS
-  pub tries : w.outcomes.tries ≡ first.outcomes.tries
+  pub tasks : total w.counts.outcomes ≤ MOST_TASKS
+  pub tries : w.counts.tries ≡ first.counts.tries
 
 -- the workers of a crew can be gathered: the first one holds all grants that are left
 pub record CanGather {W : Type 0} (crew : Crew W) : Type 0 where
   pub grants : crew.first.caller.user.value.grants + vec_len crew.others ≡ MOST_GRANTS
   pub few : vec_len crew.others < MOST_CLIENTS
-  pub tasks : total crew.first.outcomes.outcomes ≤ MOST_TASKS
+  pub tasks : total crew.first.counts.outcomes ≤ MOST_TASKS
   pub others : All (IsMember crew.first) crew.others.items
 
 -- the results of one client in one round or several: the records of its completed tasks, the
@@ -217,14 +217,14 @@ abbrev pub RoundHasRun : {W D : Type 0} → (D → ℕ → D → Type 0) → (W 
     → CallerShown → List W → Round W → Type 0
 RoundHasRun leads shown_of s n y slots r =
     RanAll leads s shown_of n y.shared.renewal r.manager.renewal y.user.value.records slots
-    r.client.value.records r.slots.items r.outcomes.outcomes r.outcomes.attempts
+    r.client.value.records r.slots.items r.counts.outcomes r.counts.attempts
     (all_aborted y.user.value) (all_aborted r.client.value)
 
 -- a round of a load with these settings has a slot for each client, the limit on attempts of the
 -- settings, and a solo client
 pub record IsRound {W : Type 0} (s : Settings) (r : Round W) : Type 0 where
   pub number : vec_len r.slots ≡ s.clients
-  pub tries : r.outcomes.tries ≡ s.tries
+  pub tries : r.counts.tries ≡ s.tries
   pub alone : IsAloneInRenewal (caller_of r.manager r.client)
 
 -- a load can be run with these settings and this number of clients

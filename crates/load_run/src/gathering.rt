@@ -27,12 +27,12 @@ pub(crate) fn gather_all<W: Drop>(
     requires empty { slots.items ≡ [] }
     ensures own { result.0.table ≡ crew.entry.first.caller.shared.table }
     ensures alone { HasAllGrants result.0.value }
-    ensures gathered { Gathered (λ w. w.caller.user.value.records) (λ w. w.outcomes.outcomes)
+    ensures gathered { Gathered (λ w. w.caller.user.value.records) (λ w. w.counts.outcomes)
         crew.entry.first crew.entry.others.items result.0.value.records
         result.2.outcomes }
-    ensures tries { result.2.tries ≡ crew.entry.first.outcomes.tries }
+    ensures tries { result.2.tries ≡ crew.entry.first.counts.tries }
     ensures attempts { result.2.attempts
-        ≡ sum_of (λ w. w.outcomes.attempts) (crew.entry.first ∷ crew.entry.others.items) }
+        ≡ sum_of (λ w. w.counts.attempts) (crew.entry.first ∷ crew.entry.others.items) }
     ensures slots { Paired (λ w slot. slot ≡ w.slot)
         (crew.entry.first ∷ crew.entry.others.items) result.1.items }
     ensures aborted { AllWithin (λ w. all_aborted w.caller.user.value)
@@ -42,20 +42,20 @@ pub(crate) fn gather_all<W: Drop>(
     let Worker {
         mut caller,
         slot,
-        mut outcomes,
+        mut counts,
     } = first;
     slots.push_reserved(slot);
     for worker in others {
         let Worker {
             caller: other,
             slot,
-            outcomes: more,
+            counts: more,
         } = worker;
         caller.gather(other);
         slots.push_reserved(slot);
-        outcomes = outcomes.plus(more);
+        counts = counts.plus(more);
     }
-    (caller.into_user(), slots, outcomes)
+    (caller.into_user(), slots, counts)
 }
 
 /// Splits off a caller for each client slot but the first, which gets the caller of the setup
@@ -88,14 +88,14 @@ pub(crate) fn split_crew<'m, W: Drop>(
         let worker = Worker {
             caller: other,
             slot: another,
-            outcomes: TaskCounts::new(tries),
+            counts: TaskCounts::new(tries),
         };
         others.push_reserved(worker);
     }
     let first = Worker {
         caller,
         slot,
-        outcomes: TaskCounts::new(tries),
+        counts: TaskCounts::new(tries),
     };
     Ok(Crew { first, others })
 }

@@ -206,7 +206,7 @@ impl<D: Draws + Send + Drop, G: Gate + Send + Drop, K: Recorder + Send + Drop> L
                 manager,
                 client,
                 slots,
-                outcomes,
+                counts,
             } = round;
             let (manager, client) = renewed(manager, client, &plan.settings)?;
             let more = plan.run_round(rt, manager, client, slots)?;
@@ -214,18 +214,18 @@ impl<D: Draws + Send + Drop, G: Gate + Send + Drop, K: Recorder + Send + Drop> L
                 manager: more.manager,
                 client: more.client,
                 slots: more.slots,
-                outcomes: outcomes.plus(more.outcomes),
+                counts: counts.plus(more.counts),
             };
         }
         let Round {
             manager,
             client,
             slots,
-            outcomes,
+            counts,
         } = round;
         let words = close(manager, client)?;
         let report = report_of(words);
-        let (outcomes, statistics) = outcomes.apart();
+        let (outcomes, statistics) = counts.apart();
         let clients = recorders_of(slots, left);
         let opening = keep;
         Ok((

@@ -41,12 +41,12 @@ pub fn count_loop<D: Draws, G: Gate, K: Recorder>(
         (contents K.notes K.traced K.latest keep.old)
         (contents K.notes K.traced K.latest keep.new) }
 {
-    let mut outcomes = TaskCounts::new(settings.tries);
+    let mut counts = TaskCounts::new(settings.tries);
     let mut statistics = CallStatistics::new();
     'tasks: for _ in 0..settings.tasks {
         let drawn = draw_task(alloc, draws, settings);
         let Ok(task) = with_room(drawn, keep) else {
-            outcomes.count(&Err(Fault::Memory), &CallStatistics::new());
+            counts.count(&Err(Fault::Memory), &CallStatistics::new());
             continue;
         };
         let mut tracer = keep.lend();
@@ -54,7 +54,7 @@ pub fn count_loop<D: Draws, G: Gate, K: Recorder>(
         let end = trace_valid(caller, &task, tries, gate, &mut tracer, &mut statistics);
         keep.take_back(tracer);
         let end = record_call(task, end, gate, keep);
-        outcomes.count(&end, &statistics);
+        counts.count(&end, &statistics);
     }
-    outcomes
+    counts
 }

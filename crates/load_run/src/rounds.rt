@@ -26,7 +26,7 @@ pub(crate) struct Round<W> {
     pub(crate) manager: Manager,
     pub(crate) client: Client,
     pub(crate) slots: Vec<W>,
-    pub(crate) outcomes: TaskCounts,
+    pub(crate) counts: TaskCounts,
 }
 
 impl Plan {
@@ -87,12 +87,12 @@ impl Plan {
                 Ok(Crew { first, others })
             },
         )?;
-        let (client, slots, outcomes) = gather_all(crew, left);
+        let (client, slots, counts) = gather_all(crew, left);
         Ok(Round {
             manager,
             client,
             slots,
-            outcomes,
+            counts,
         })
     }
 }

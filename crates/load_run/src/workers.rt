@@ -22,7 +22,7 @@ use vac_manager::{Caller, Recorder};
 pub(crate) struct Worker<'m, W> {
     pub(crate) caller: Caller<'m>,
     pub(crate) slot: W,
-    pub(crate) outcomes: TaskCounts,
+    pub(crate) counts: TaskCounts,
 }
 
 /// The promise of a worker's thread: the worker ran its tasks.
@@ -109,7 +109,7 @@ impl Plan {
                 ..
             } = worker;
             slot.gate.ready();
-            let outcomes = count_loop(
+            let counts = count_loop(
                 plan.alloc,
                 &mut caller,
                 &mut slot.draws,
@@ -121,7 +121,7 @@ impl Plan {
             Worker {
                 caller,
                 slot,
-                outcomes,
+                counts,
             }
         };
         match scope.spawn_with(promise, run) {

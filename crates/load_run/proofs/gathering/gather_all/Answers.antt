@@ -36,9 +36,9 @@ loop-worker-init g c =
       others = all_same (IsMember c.args.crew.first) c.args.crew.others.items
           (into_iter_items c.into_iter-worker-iterator.result) made.0 c.requires.can.others;
       tries = refl;
-      attempts = sum_one (λ w. w.outcomes.attempts) c.args.crew.first;
+      attempts = sum_one (λ w. w.counts.attempts) c.args.crew.first;
       aborted = aborted_one (λ w. all_aborted w.caller.user.value) c.args.crew.first;
-      gathered = gathered_one (λ w. w.caller.user.value.records) (λ w. w.outcomes.outcomes) c.args.crew.first;
+      gathered = gathered_one (λ w. w.caller.user.value.records) (λ w. w.counts.outcomes) c.args.crew.first;
       handed = paired_step (λ w slot. slot ≡ w.slot) []
           c.args.slots.items c.push_reserved.new.self.items c.args.crew.first c.args.crew.first.slot pushed.items
           (paired_none (λ w slot. slot ≡ w.slot) c.args.slots.items
@@ -47,7 +47,7 @@ loop-worker-init g c =
           c.push_reserved.new.self.len c.args.slots.cap c.push_reserved.new.self.cap made.1 pushed.len pushed.capacity
           (search rules) c.requires.room;
       bound = few_left c.args.crew.others.len (into_iter_len c.into_iter-worker-iterator.result)
-          (total c.args.crew.first.outcomes.outcomes) made.1 c.requires.can.few c.requires.can.tasks;
+          (total c.args.crew.first.counts.outcomes) made.1 c.requires.can.few c.requires.can.tasks;
     }
 
 pub gather-requires : goal.gather-requires
@@ -56,12 +56,12 @@ gather-requires g c =
     (into_iter_items c.next.new.self) c.in-Some.worker c.in-Some.ensures.steps.0 c.loop-worker.invariant.others in
     record { own = ap (λ (m : RegionShown). m.table) (one.one ∙ sym c.loop-worker.invariant.manager) }
 
-pub plus-outcomes-requires : goal.plus-outcomes-requires
-plus-outcomes-requires g c =
+pub plus-counts-requires : goal.plus-counts-requires
+plus-counts-requires g c =
     let one = all_first (IsMember c.args.crew.first) (into_iter_items c.loop-worker.worker-iterator)
     (into_iter_items c.next.new.self) c.in-Some.worker c.in-Some.ensures.steps.0 c.loop-worker.invariant.others in
     record {
-      fits = few_both (total c.loop-worker.outcomes.outcomes) (total c.in-Some.worker.outcomes.outcomes) (into_iter_len
+      fits = few_both (total c.loop-worker.counts.outcomes) (total c.in-Some.worker.counts.outcomes) (into_iter_len
           c.loop-worker.worker-iterator) one.tasks c.loop-worker.invariant.bound;
       same = one.tries ∙ sym c.loop-worker.invariant.tries;
     }
@@ -85,18 +85,18 @@ loop-worker-preserved g c =
           (into_iter_len c.next.new.self) less one.grants taken.grants i.grants;
       others = all_but_first (IsMember c.args.crew.first) (into_iter_items c.loop-worker.worker-iterator)
           (into_iter_items c.next.new.self) c.in-Some.worker split i.others;
-      tries = ap (λ (x : TaskCountsShown). x.tries) c.plus-outcomes.ensures ∙ i.tries;
-      attempts = sum_on (λ w. w.outcomes.attempts) c.args.crew.first c.loop-worker.yielded c.in-Some.worker
-          c.loop-worker.outcomes.attempts c.plus-outcomes.result.attempts i.attempts
-          (ap (λ (x : TaskCountsShown). x.attempts) c.plus-outcomes.ensures);
+      tries = ap (λ (x : TaskCountsShown). x.tries) c.plus-counts.ensures ∙ i.tries;
+      attempts = sum_on (λ w. w.counts.attempts) c.args.crew.first c.loop-worker.yielded c.in-Some.worker
+          c.loop-worker.counts.attempts c.plus-counts.result.attempts i.attempts
+          (ap (λ (x : TaskCountsShown). x.attempts) c.plus-counts.ensures);
       aborted = aborted_more (λ w. all_aborted w.caller.user.value) (c.args.crew.first ∷ c.loop-worker.yielded)
           c.in-Some.worker (all_aborted c.loop-worker.caller.user.value) (all_aborted c.gather.new.self.user.value)
           i.aborted taken.mine taken.theirs;
       gathered = gathered_more (λ w. w.caller.user.value.records)
-          (λ w. w.outcomes.outcomes) c.args.crew.first c.loop-worker.yielded c.in-Some.worker
-          c.loop-worker.caller.user.value c.gather.new.self.user.value c.loop-worker.outcomes.outcomes
-          c.plus-outcomes.result.outcomes
-          i.gathered taken.records (ap (λ (x : TaskCountsShown). x.outcomes) c.plus-outcomes.ensures);
+          (λ w. w.counts.outcomes) c.args.crew.first c.loop-worker.yielded c.in-Some.worker
+          c.loop-worker.caller.user.value c.gather.new.self.user.value c.loop-worker.counts.outcomes
+          c.plus-counts.result.outcomes
+          i.gathered taken.records (ap (λ (x : TaskCountsShown). x.outcomes) c.plus-counts.ensures);
       handed = paired_step (λ w slot. slot ≡ w.slot)
           (c.args.crew.first ∷ c.loop-worker.yielded) c.loop-worker.slots.items
           c.push_reserved-in-loop-worker.new.self.items c.in-Some.worker c.in-Some.worker.slot pushed.items
@@ -104,24 +104,24 @@ loop-worker-preserved g c =
       room = room_taken c.loop-worker.slots.len c.push_reserved-in-loop-worker.new.self.len
           (into_iter_len c.loop-worker.worker-iterator) (into_iter_len c.next.new.self) c.loop-worker.slots.cap
           c.push_reserved-in-loop-worker.new.self.cap less pushed.len pushed.capacity i.room;
-      bound = few_more c.loop-worker.outcomes.outcomes c.in-Some.worker.outcomes.outcomes
-          c.plus-outcomes.result.outcomes
+      bound = few_more c.loop-worker.counts.outcomes c.in-Some.worker.counts.outcomes
+          c.plus-counts.result.outcomes
           (into_iter_len c.loop-worker.worker-iterator) (into_iter_len c.next.new.self)
-          (ap (λ (x : TaskCountsShown). x.outcomes) c.plus-outcomes.ensures) less one.tasks i.bound;
+          (ap (λ (x : TaskCountsShown). x.outcomes) c.plus-counts.ensures) less one.tasks i.bound;
     }
 
 pub returns-clause-gathered : goal.returns-clause-gathered
 returns-clause-gathered g c =
     rw c.into_user.ensures.user (subst (λ (l : List _). Gathered (λ w. w.caller.user.value.records)
-    (λ w. w.outcomes.outcomes) c.args.crew.first l c.loop-worker.caller.user.value.records
-    c.loop-worker.outcomes.outcomes)
+    (λ w. w.counts.outcomes) c.args.crew.first l c.loop-worker.caller.user.value.records
+    c.loop-worker.counts.outcomes)
     (all_met c.args.crew.others.items c.loop-worker.yielded (into_iter_items c.loop-worker.worker-iterator)
     c.loop-worker.invariant.all (nothing_left c.loop-worker.worker-iterator c.in-None.ensures.steps.0))
     c.loop-worker.invariant.gathered)
 
 pub returns-clause-attempts : goal.returns-clause-attempts
 returns-clause-attempts g c =
-    subst (λ (l : List _). c.loop-worker.outcomes.attempts ≡ sum_of (λ w. w.outcomes.attempts)
+    subst (λ (l : List _). c.loop-worker.counts.attempts ≡ sum_of (λ w. w.counts.attempts)
     (c.args.crew.first ∷ l))
     (all_met c.args.crew.others.items c.loop-worker.yielded (into_iter_items c.loop-worker.worker-iterator)
     c.loop-worker.invariant.all (nothing_left c.loop-worker.worker-iterator c.in-None.ensures.steps.0))

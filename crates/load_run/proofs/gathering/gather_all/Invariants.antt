@@ -14,13 +14,13 @@ invariant-loop-worker g l = record {
   manager : l.caller.shared ≡ l.fn.crew.first.caller.shared;
   grants : l.caller.user.value.grants + into_iter_len l.worker-iterator ≡ MOST_GRANTS;
   others : All (IsMember l.fn.crew.first) (into_iter_items l.worker-iterator);
-  tries : l.outcomes.tries ≡ l.fn.crew.first.outcomes.tries;
-  attempts : l.outcomes.attempts ≡ sum_of (λ w. w.outcomes.attempts) (l.fn.crew.first ∷ l.yielded);
+  tries : l.counts.tries ≡ l.fn.crew.first.counts.tries;
+  attempts : l.counts.attempts ≡ sum_of (λ w. w.counts.attempts) (l.fn.crew.first ∷ l.yielded);
   gathered : Gathered (λ w. w.caller.user.value.records)
-      (λ w. w.outcomes.outcomes) l.fn.crew.first l.yielded l.caller.user.value.records l.outcomes.outcomes;
+      (λ w. w.counts.outcomes) l.fn.crew.first l.yielded l.caller.user.value.records l.counts.outcomes;
   aborted : AllWithin (λ w. all_aborted w.caller.user.value) (l.fn.crew.first ∷ l.yielded)
       (all_aborted l.caller.user.value);
   handed : Paired (λ w slot. slot ≡ w.slot) (l.fn.crew.first ∷ l.yielded) l.slots.items;
   room : vec_len l.slots + into_iter_len l.worker-iterator ≤ vec_capacity l.slots;
-  bound : total l.outcomes.outcomes + into_iter_len l.worker-iterator * 1000000 ≤ 65000000;
+  bound : total l.counts.outcomes + into_iter_len l.worker-iterator * 1000000 ≤ 65000000;
 }

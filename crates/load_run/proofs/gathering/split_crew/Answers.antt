@@ -36,7 +36,7 @@ loop-another-init g c =
           c.in-Ok.others.cap made.len (ap (λ it. into_iter_len it) same) c.in-Some.ensures.cases.1
           c.into_iter-slots.ensures.len c.len.ensures made.capacity;
       others_grants = all_none (λ w. w.caller.user.value.grants ≡ 0) c.in-Ok.others.items made.items;
-      tallies = all_none (λ w. w.outcomes ≡ uncounted c.args.tries) c.in-Ok.others.items made.items;
+      tallies = all_none (λ w. w.counts ≡ uncounted c.args.tries) c.in-Ok.others.items made.items;
       crew = paired_none _ c.in-Ok.others.items made.items;
     }
 
@@ -60,7 +60,7 @@ loop-another-preserved g c =
           c.push_reserved.new.self.cap t.1 p.len p.capacity i.room;
       others_grants = all_more (λ w. w.caller.user.value.grants ≡ 0) c.loop-another.others.items
           c.push_reserved.new.self.items _ p.items i.others_grants (ap (λ (x : ClientShown). x.value.grants) s.theirs);
-      tallies = all_more (λ w. w.outcomes ≡ uncounted c.args.tries) c.loop-another.others.items
+      tallies = all_more (λ w. w.counts ≡ uncounted c.args.tries) c.loop-another.others.items
           c.push_reserved.new.self.items _ p.items i.tallies c.new.ensures;
       crew = paired_step _ _ c.loop-another.others.items c.push_reserved.new.self.items c.in-Some-another.another
           _ p.items i.crew (split_worker c.args.caller c.loop-another.caller c.split.new.self _ s
@@ -80,7 +80,7 @@ returns-clause-crew g c =
       others_are = paired_all _ _ _ _ _ i.all (nothing_left c.loop-another.another-iterator end.steps.0) i.crew;
       grants = i.grants;
       others_grants = i.others_grants;
-      outcomes = search rules;
+      counts = search rules;
       aborted = i.aborted;
-      others_tallies = i.tallies;
+      others_counts = i.tallies;
     }

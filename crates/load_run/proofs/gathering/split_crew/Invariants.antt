@@ -16,7 +16,7 @@ invariant-loop-another g l = record {
   aborted : all_aborted l.caller.user.value ≡ all_aborted l.fn.caller.user.value;
   grants : l.caller.user.value.grants + vec_len l.others ≡ MOST_GRANTS;
   others_grants : All (λ w. w.caller.user.value.grants ≡ 0) l.others.items;
-  tallies : All (λ w. w.outcomes ≡ uncounted l.fn.tries) l.others.items;
+  tallies : All (λ w. w.counts ≡ uncounted l.fn.tries) l.others.items;
   count : vec_len l.others + into_iter_len l.another-iterator + 1 ≡ vec_len l.fn.slots;
   room : vec_len l.others + into_iter_len l.another-iterator ≤ vec_capacity l.others;
   crew : Paired (IsWorker l.fn.caller.shared [] l.fn.caller.user.value.floor) l.yielded l.others.items;

@@ -17,11 +17,11 @@ use Rattle.load_run.proofs.looping.count_loop.Goals as goal
 pub tasks-init : goal.tasks-init
 tasks-init g c = record {
   caller = refl;
-  looped = rw c.new-outcomes.ensures (looped_none g.D.Draws.leads c.args.settings.now c.args.caller.now.shared.renewal
+  looped = rw c.new-counts.ensures (looped_none g.D.Draws.leads c.args.settings.now c.args.caller.now.shared.renewal
       c.args.caller.now.user.value c.args.draws.now);
-  clock = λ _. rw c.new-outcomes.ensures (clocked_none c.args.caller.now.shared.last c.args.caller.now.user.value);
+  clock = λ _. rw c.new-counts.ensures (clocked_none c.args.caller.now.shared.last c.args.caller.now.user.value);
   tries = search rules;
-  attempts = omega (arith, ap (λ (x : TaskCountsShown). x.attempts) c.new-outcomes.ensures);
+  attempts = omega (arith, ap (λ (x : TaskCountsShown). x.attempts) c.new-counts.ensures);
   kept = kept_none _ _ _ _ refl;
 }
 
@@ -35,13 +35,13 @@ tasks-preserved-in_default g c =
       caller = c.tasks.invariant.caller;
       looped = rw c.count.ensures (looped_more g.D.Draws.leads c.args.settings.now c.args.caller.now.shared.renewal
           c.tasks.counter c.args.caller.now.user.value c.tasks.caller.user.value c.tasks.caller.user.value
-          c.args.draws.now c.tasks.draws c.draw_task-drawn.new.draws c.tasks.outcomes.outcomes c.draw_task-drawn.result
+          c.args.draws.now c.tasks.draws c.draw_task-drawn.new.draws c.tasks.counts.outcomes c.draw_task-drawn.result
           (Err fault.Memory) c.tasks.invariant.looped c.draw_task-drawn.ensures.drawn
           (of_manager (λ m. RanOne m.renewal c.draw_task-drawn.result c.args.settings.now.tries (Err fault.Memory)
           c.tasks.caller.user.value c.tasks.caller.user.value) c.args.caller.now c.tasks.caller
           c.tasks.invariant.caller i.one));
       clock = λ alone. rw c.count.ensures (clocked_more {R = Unit {0}} c.args.caller.now.shared.last (Err fault.Memory)
-          c.args.caller.now.user.value c.tasks.caller.user.value c.tasks.caller.user.value c.tasks.outcomes.outcomes
+          c.args.caller.now.user.value c.tasks.caller.user.value c.tasks.caller.user.value c.tasks.counts.outcomes
           (c.tasks.invariant.clock alone)
           (of_manager (λ m. Clocked m.last c.tasks.caller.user.value c.tasks.caller.user.value
           (counted {R = Unit {0}} (Err fault.Memory) nothing)) c.args.caller.now c.tasks.caller
@@ -105,7 +105,7 @@ tasks-preserved g c =
       looped = rw c.count-in-tasks.ensures (looped_more g.D.Draws.leads c.args.settings.now
           c.args.caller.now.shared.renewal c.tasks.counter c.args.caller.now.user.value c.tasks.caller.user.value
           c.trace_valid-end.new.caller.user.value
-          c.args.draws.now c.tasks.draws c.draw_task-drawn.new.draws c.tasks.outcomes.outcomes c.draw_task-drawn.result
+          c.args.draws.now c.tasks.draws c.draw_task-drawn.new.draws c.tasks.counts.outcomes c.draw_task-drawn.result
           c.record_call-end.result
           c.tasks.invariant.looped c.draw_task-drawn.ensures.drawn
           (of_manager (λ m. RanOne m.renewal c.draw_task-drawn.result c.args.settings.now.tries
@@ -115,7 +115,7 @@ tasks-preserved g c =
       clock = λ alone. rw c.count-in-tasks.ensures (clocked_more c.args.caller.now.shared.last
           c.record_call-end.result
           c.args.caller.now.user.value c.tasks.caller.user.value c.trace_valid-end.new.caller.user.value
-          c.tasks.outcomes.outcomes
+          c.tasks.counts.outcomes
           (c.tasks.invariant.clock alone)
           (of_manager (λ m. Clocked m.last c.tasks.caller.user.value c.trace_valid-end.new.caller.user.value
           (counted c.record_call-end.result nothing)) c.args.caller.now c.tasks.caller c.tasks.invariant.caller

@@ -115,7 +115,7 @@ returns-clause-kept g c =
     c.rounds.round.slots.items
     c.recorders_of-clients.result.items c.recorders_of-clients.ensures
     (λ afters. LoadedKept g.D.Draws.leads s (λ slot. slot.draws) c.args.self.draws c.args.self.slots.items
-    c.rounds.round.outcomes.outcomes c.report_of-report.result c.rounds.round.outcomes.attempts
+    c.rounds.round.counts.outcomes c.report_of-report.result c.rounds.round.counts.attempts
     (notes c.args.self.keep) (notes c.open_load.new.keep)
     (kept_at notes c.args.self.slots.items) afters)
     (loaded_kept g.D.Draws.leads notes s c.args.self.draws
