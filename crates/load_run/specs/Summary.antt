@@ -5,6 +5,7 @@ use Rattle.load_run.specs.declared.outcomes.Outcomes.{Outcomes}
 use Rattle.load_run.specs.declared.load.LoadReport.{LoadReport}
 use Rattle.load_run.specs.declared.statistics.AttemptStatistics.{AttemptStatistics}
 use Rattle.load_run.specs.declared.summary.LoadSummary.{LoadSummary}
+use Rattle.load_run.specs.declared.summary.TheConstants.{SECOND, MICROSECOND}
 
 -- the counts of a load's tasks by their result
 abbrev pub counts_text : Outcomes → List ℕ
@@ -64,7 +65,7 @@ statistics_text e =
 abbrev pub throughput_text : LoadSummary → List ℕ
 throughput_text n =
     field_text (codes " tasks-per-second ")
-    (quotient_or_zero (n.report.outcomes.answered * 1000000000) n.nanos)
+    (quotient_or_zero (n.report.outcomes.answered * SECOND) n.nanos)
 
 -- thousandths of an attempt for each completed task, as a number with three digits behind the point
 abbrev pub attempts_per_task_text : ℕ → List ℕ
@@ -78,7 +79,7 @@ thousandths_of n = quotient_or_zero (n.statistics.attempts * 1000) n.report.outc
 
 -- how fast a load was: the seconds that its clients took, and the completed tasks in a second
 abbrev pub timing_text : LoadSummary → List ℕ
-timing_text n = seconds_text (n.nanos / 1000) ++ throughput_text n
+timing_text n = seconds_text (n.nanos / MICROSECOND) ++ throughput_text n
 
 -- the attempts of a load: the attempt statistics, and the attempts for each completed task
 abbrev pub attempt_figures_text : LoadSummary → List ℕ

@@ -51,8 +51,7 @@ impl Display for LoadReport {
     }
 }
 
-/// A name and its number, as a value with a text of its own. The prover shows the text of a format
-/// of many such values, but of at most three numbers.
+/// A name and its number, whose text is the `field_text` of the contracts.
 #[derive(Clone, Copy)]
 struct Field<'a> {
     name: &'a str,
@@ -192,7 +191,7 @@ impl LoadSummary {
     /// Returns the number of completed tasks in a second.
     fn throughput(&self) -> u128
         ensures { result
-            ≡ quotient_or_zero (self.now.report.outcomes.answered * 1000000000) self.now.nanos }
+            ≡ quotient_or_zero (self.now.report.outcomes.answered * SECOND) self.now.nanos }
     {
         let answered = u128::from(self.report.outcomes.answered);
         quotient_or_zero(answered * SECOND, self.nanos)
