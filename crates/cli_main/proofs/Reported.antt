@@ -18,12 +18,12 @@ pub shown : (held holds : Option (List ℕ)) (slice items text : List ℕ) → s
 shown held holds slice items text e f written = subst (AppendsPrefix held holds) (e ∙ f) written
 
 -- the report was written to what was there, unless progress lines were
-pub beside : (progress stats asks : Bool) (status : ℕ) (held middle holds : Option (List ℕ)) →
-    (progress ≡ false → middle ≡ held) → ReportsCalls stats asks status middle holds →
-    ReportsBeside progress stats asks status held holds
-beside true stats asks status held middle holds untold report = tt
-beside false stats asks status held middle holds untold report =
-    subst (λ h. ReportsCalls stats asks status h holds) (untold refl) report
+pub beside : (progress stats has_workload : Bool) (status : ℕ) (held middle holds : Option (List ℕ)) →
+    (progress ≡ false → middle ≡ held) → ReportsCalls stats has_workload status middle holds →
+    ReportsBeside progress stats has_workload status held holds
+beside true stats has_workload status held middle holds untold report = tt
+beside false stats has_workload status held middle holds untold report =
+    subst (λ h. ReportsCalls stats has_workload status h holds) (untold refl) report
 
 -- the command line is refused
 pub reports_refused : (how : JudgeSettings) (status : ℕ) (told tells : Option (List ℕ)) →

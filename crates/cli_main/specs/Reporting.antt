@@ -26,16 +26,17 @@ report_of stats status figures warning =
 abbrev pub unmeasured_line : List ℕ
 unmeasured_line = as_line (codes "no figures: memory was refused, or there are over 4194304 lines")
 
--- the warnings about a log of calls; `asks` says whether the log is checked against a workload
+-- the warnings about a log of calls; `has_workload` says whether the log is checked against a
+-- workload
 abbrev pub calls_warnings : Bool → Coverage → List ℕ
-calls_warnings asks coverage =
-    calls_warning_text coverage ++ (if asks then pending_warning_text coverage else [])
+calls_warnings has_workload coverage =
+    calls_warning_text coverage ++ (if has_workload then pending_warning_text coverage else [])
 
 -- the report on a log of calls with these figures
 abbrev pub calls_report : Bool → Bool → ℕ → Option Coverage → List ℕ
-calls_report stats asks status None = if stats then unmeasured_line else []
-calls_report stats asks status (Some coverage) =
-    report_of stats status (calls_coverage_text coverage) (calls_warnings asks coverage)
+calls_report stats has_workload status None = if stats then unmeasured_line else []
+calls_report stats has_workload status (Some coverage) =
+    report_of stats status (calls_coverage_text coverage) (calls_warnings has_workload coverage)
 
 -- the report on a log of attempts with these figures
 abbrev pub attempts_report : Bool → ℕ → Option AttemptCoverage → List ℕ
@@ -47,8 +48,8 @@ attempts_report stats status (Some coverage) =
 -- Not said: that the figures are those of the log, because no contract of a judge says more of a
 -- reader than which bytes it has left; that the report is written completely.
 abbrev pub ReportsCalls : Bool → Bool → ℕ → Option (List ℕ) → Option (List ℕ) → Type 0
-ReportsCalls stats asks status told tells = (coverage : Option Coverage)
-    × AppendsPrefix told tells (calls_report stats asks status coverage)
+ReportsCalls stats has_workload status told tells = (coverage : Option Coverage)
+    × AppendsPrefix told tells (calls_report stats has_workload status coverage)
 
 -- as `ReportsCalls`, for a log of attempts
 abbrev pub ReportsAttempts : Bool → ℕ → Option (List ℕ) → Option (List ℕ) → Type 0
@@ -58,8 +59,9 @@ ReportsAttempts stats status told tells = (coverage : Option AttemptCoverage)
 -- as `ReportsCalls`, unless the progress of a search is reported as well
 -- Not said: what is written if the progress is reported.
 abbrev pub ReportsBeside : Bool → Bool → Bool → ℕ → Option (List ℕ) → Option (List ℕ) → Type 0
-ReportsBeside true stats asks status told tells = ⊤
-ReportsBeside false stats asks status told tells = ReportsCalls stats asks status told tells
+ReportsBeside true stats has_workload status told tells = ⊤
+ReportsBeside false stats has_workload status told tells =
+    ReportsCalls stats has_workload status told tells
 
 -- what a judge of a history reports, unless the command line is refused
 -- Not said: the text about a refused command line.

@@ -92,22 +92,22 @@ impl Display for AttemptsReport {
 }
 
 /// Writes the report on a log of calls to `errors`: the figures if they are asked for, and the
-/// warnings if the status is that of a positive verdict. `asks` is true if the log is checked
-/// against a workload. Writes nothing if memory is refused; a failed write changes nothing.
+/// warnings if the status is that of a positive verdict. Writes nothing if memory is refused; a
+/// failed write changes nothing.
 pub(crate) fn report_calls<E: Write>(
     alloc: Global,
     stats: bool,
-    asks: bool,
+    has_workload: bool,
     status: u8,
     coverage: Option<Coverage>,
     errors: &mut E,
 )
     ensures { AppendsPrefix (E.contents errors.old) (E.contents errors.new)
-        (calls_report stats asks status coverage) }
+        (calls_report stats has_workload status coverage) }
 {
     let report = CallsReport {
         stats,
-        has_workload: asks,
+        has_workload,
         status,
         coverage,
     };

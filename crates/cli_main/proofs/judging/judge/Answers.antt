@@ -28,7 +28,7 @@ returns-clause-judged g c =
 pub returns-clause-reported : goal.returns-clause-reported
 returns-clause-reported g c =
     reports_asked _ _ _ _ (sym c.refusal_of.ensures ∙ ap is_some c.in_default.is)
-    (subst (λ (asks : Bool). ReportsBeside c.args.how.search.progress c.args.how.search.stats asks
+    (subst (λ (has_workload : Bool). ReportsBeside c.args.how.search.progress c.args.how.search.stats has_workload
     c.judge_as-status.result (g.E.Write.contents c.args.errors.now) (g.E.Write.contents c.report_calls.new.errors))
     c.is_some.ensures
     (beside _ _ _ _ _ _ _ c.judge_as-status.ensures.untold (c.measure_calls.result, c.report_calls.ensures)))
