@@ -29,14 +29,15 @@ pub data WritesProgress (all : ℕ) : Option (List ℕ) → Option (List ℕ) �
       AppendsPrefix middle tells (progress_line answered all) → WritesProgress all told tells
 
 -- the statistics of a load as a line, if they are asked for
-abbrev pub stats_if : Bool → LoadSummary → List ℕ
-stats_if asked n = if asked then as_line (stats_text n) else []
+abbrev pub statistics_line : Bool → LoadSummary → List ℕ
+statistics_line asked n = if asked then as_line (stats_text n) else []
 
 -- the two lines of a load, if they are asked for
-abbrev pub lines_if : Bool → LoadReport → List ℕ
-lines_if asked load = if asked then load_text load else []
+abbrev pub load_lines : Bool → LoadReport → List ℕ
+load_lines asked load = if asked then load_text load else []
 
 -- the lines about the end of a load on standard error: its statistics if they are asked for, and
 -- its two lines if its history or its attempts go to the output
 abbrev pub summary_text : LoadOutput → LoadSummary → List ℕ
-summary_text how n = stats_if how.stats n ++ lines_if (how.history || how.attempts) n.report
+summary_text how n =
+    statistics_line how.stats n ++ load_lines (how.history || how.attempts) n.report

@@ -2,7 +2,7 @@
 
 ghost use Rattle.std.specs.Prelude.{◌≡◌, ◌≤◌, ◌⊎◌, Some};
 ghost use Rattle.load_run.specs.Summary.{load_text};
-ghost use Rattle.cli_main.specs.Statistics.{stats_if, lines_if, summary_text};
+ghost use Rattle.cli_main.specs.Statistics.{load_lines, statistics_line, summary_text};
 ghost use Rattle.cli_main.specs.Load.{EndsLoad, WroteLoad, WroteLoadInPart};
 ghost use Rattle.cli_main.specs.Program.{LoadsAs};
 ghost use Rattle.std.specs.Io.KnownBytes.{Appends};
@@ -125,7 +125,7 @@ struct StatsLine<'a> {
 }
 
 impl Display for StatsLine<'_> {
-    ghost output = { λ line. Some (stats_if line.asked line.summary.now) };
+    ghost output = { λ line. Some (statistics_line line.asked line.summary.now) };
 
     fn fmt<W: fmt::Write>(&self, f: &mut Formatter<W>) -> fmt::Result {
         if self.asked {
@@ -143,7 +143,7 @@ struct LoadLines<'a> {
 }
 
 impl Display for LoadLines<'_> {
-    ghost output = { λ lines. Some (lines_if lines.asked lines.report.now) };
+    ghost output = { λ lines. Some (load_lines lines.asked lines.report.now) };
 
     fn fmt<W: fmt::Write>(&self, f: &mut Formatter<W>) -> fmt::Result {
         if self.asked {
