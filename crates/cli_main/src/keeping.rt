@@ -210,13 +210,13 @@ impl<'a, T: Threads + Wait + Clock + Sync + AllocGlobal> LoadRequest<'a, T> {
         let Ok(empty) = recorders else {
             return end_load_by(LoadFault::Memory, output);
         };
-        let span = LoadTimer::new(self.rt, self.settings.clients);
+        let timer = LoadTimer::new(self.rt, self.settings.clients);
         let (report, statistics, recorders) = match run_with_progress(
             self.rt,
             self.settings,
             self.how,
             empty,
-            &span,
+            &timer,
             errors,
         ) {
             Ok(loaded) => loaded,
@@ -225,7 +225,7 @@ impl<'a, T: Threads + Wait + Clock + Sync + AllocGlobal> LoadRequest<'a, T> {
         if !K::are_whole(&recorders) {
             return end_load_by(LoadFault::Memory, output);
         }
-        let (settings, nanos) = (self.settings, span.nanos());
+        let (settings, nanos) = (self.settings, timer.nanos());
         let summary = LoadSummary {
             nanos,
             report,

@@ -81,10 +81,10 @@ impl<T: Threads + Wait + Clock + Sync + AllocGlobal> LoadRequest<'_, T> {
         let Ok(recorders) = no_recorders(self.rt.alloc(), self.settings.clients) else {
             return end_load_by(LoadFault::Memory, output);
         };
-        let span = LoadTimer::new(self.rt, self.settings.clients);
-        match run_with_progress(self.rt, self.settings, self.how, recorders, &span, errors) {
+        let timer = LoadTimer::new(self.rt, self.settings.clients);
+        match run_with_progress(self.rt, self.settings, self.how, recorders, &timer, errors) {
             Ok((report, statistics, _kept)) => {
-                let nanos = span.nanos();
+                let nanos = timer.nanos();
                 let summary = LoadSummary {
                     nanos,
                     report,

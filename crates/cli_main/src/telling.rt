@@ -138,7 +138,7 @@ fn all_tasks(settings: &Settings) -> u64
     of_one.saturating_mul(u64::from(settings.clients))
 }
 
-/// Runs the load of a seed with these recorders, and with the span as the gate of each client. If
+/// Runs the load of a seed with these recorders, and with the timer as the gate of each client. If
 /// the command line asks for progress, writes the number of completed tasks to `errors` while the
 /// load runs, at most twice a second.
 ///
@@ -153,7 +153,7 @@ pub(crate) fn run_with_progress<
     settings: &Settings,
     how: LoadOutput,
     recorders: Recorders<K>,
-    span: &LoadTimer<T>,
+    timer: &LoadTimer<T>,
     errors: &mut E,
 ) -> Result<(LoadReport, AttemptStatistics, Recorders<K>), LoadFault>
 where
@@ -163,14 +163,14 @@ where
         (E.contents errors.old) (E.contents errors.new) }
 {
     if !how.progress {
-        let load = Load::by_seed(rt.alloc(), settings, span, recorders)?;
+        let load = Load::by_seed(rt.alloc(), settings, timer, recorders)?;
         return load.run(rt);
     }
     let progress = Progress::new();
     let shared = &progress;
     let counter = Counter {
         answered: &shared.answered,
-        gate: span,
+        gate: timer,
     };
     let load = Load::by_seed(rt.alloc(), settings, counter, recorders)?;
     run_telling(rt, shared, load, all_tasks(settings), errors)

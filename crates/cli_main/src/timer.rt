@@ -9,8 +9,9 @@ use stm_attempt::{Gate, Point};
 /// them.
 const MOST_TURNS: u32 = 1_000_000;
 
-/// The time that the clients of a load took: from the time when all of them were ready first to
-/// the time when the last one was done. The time is 0 if the clock cannot be read.
+/// A timer of the clients of a load, and their gate. The time runs from the moment when all clients
+/// are ready for the first time until the last client is done in the last round. The time is 0 if
+/// the clock cannot be read.
 #[derive(Drop)]
 pub(crate) struct LoadTimer<'a, T> {
     rt: &'a T,
@@ -23,12 +24,14 @@ pub(crate) struct LoadTimer<'a, T> {
     done: AtomicU32,
     /// Number of times that all clients were ready.
     rounds: AtomicU32,
+    /// Nanoseconds from the start until all clients were ready for the first time.
     begin: AtomicU64,
+    /// Nanoseconds from the start until all clients were done for the last time.
     end: AtomicU64,
 }
 
 impl<'a, T: Clock> LoadTimer<'a, T> {
-    /// Returns the time span of `clients` clients that have not begun.
+    /// Returns a timer for `clients` clients that have not begun.
     pub(crate) fn new(rt: &'a T, clients: u32) -> LoadTimer<'a, T> {
         LoadTimer {
             rt,
@@ -42,7 +45,7 @@ impl<'a, T: Clock> LoadTimer<'a, T> {
         }
     }
 
-    /// Returns the nanoseconds of the span.
+    /// Returns the nanoseconds that the clients took.
     pub(crate) fn nanos(&self) -> u64 {
         let end = self.end.load(Ordering::SeqCst);
         end.saturating_sub(self.begin.load(Ordering::SeqCst))
@@ -61,7 +64,7 @@ impl<'a, T: Clock> LoadTimer<'a, T> {
 
     /// Adds a client to this count, and returns whether all clients are counted. If they are, the
     /// count is reset to zero.
-    fn are_all(&self, clients: &AtomicU32) -> bool {
+    fn count_client(&self, clients: &AtomicU32) -> bool {
         let before = clients.fetch_add(1, Ordering::SeqCst);
         if before.saturating_add(1) < self.clients {
             return false;
@@ -85,7 +88,7 @@ impl<'a, T: Clock> LoadTimer<'a, T> {
     /// it.
     fn stand_ready(&self) {
         let round = self.rounds.load(Ordering::SeqCst);
-        if !self.are_all(&self.ready) {
+        if !self.count_client(&self.ready) {
             return self.wait_for_all(round);
         }
         if round == 0 {
@@ -96,7 +99,7 @@ impl<'a, T: Clock> LoadTimer<'a, T> {
 
     /// Stores the time once all clients are done.
     fn end_one(&self) {
-        if self.are_all(&self.done) {
+        if self.count_client(&self.done) {
             self.end.store(self.passed(), Ordering::SeqCst);
         }
     }
