@@ -12,7 +12,7 @@ ghost use Rattle.judge_coverage.specs.Watching.{inner_of};
 
 use crate::files::Open;
 use crate::reporting::{most_watched, report_attempts, report_calls};
-use crate::searching::judge_any;
+use crate::searching::judge_any_telling;
 use crate::status::{end_by, end_judged, end_unopened, refuse};
 use cli_options::{JudgeSettings, OpacitySettings};
 use judge_calls::{CALL_BYTES, judge_history, judge_with_workload};
@@ -121,7 +121,7 @@ fn judge_as<T: Clock + AllocGlobal, F: Open, R: Read, W: Write, E: Write>(
         Err(status) => return status,
     };
     if how.any_order {
-        judge_any(rt, how, tasks, input, output, errors)
+        judge_any_telling(rt, how, tasks, input, output, errors)
     } else {
         judge_with(rt.alloc(), how.blocks, tasks, input, output)
     }

@@ -93,8 +93,10 @@ fn find_order<R: Read, W: Write, V: Watcher>(
     }
 }
 
-/// As `find_order`, with progress lines if the command line asks for progress.
-fn find_order_watched<T: Clock + AllocGlobal, R: Read, W: Write, E: Write>(
+/// Writes the calls of a history in an order of a level, or writes that there is none, and returns
+/// the status. If the command line asks for progress, writes progress lines to `errors` while it
+/// searches.
+fn find_order_telling<T: Clock + AllocGlobal, R: Read, W: Write, E: Write>(
     rt: &T,
     blocks: u32,
     search: SearchSettings,
@@ -139,7 +141,7 @@ pub(crate) fn order<T: Clock + AllocGlobal, R: Read, W: Write, E: Write>(
         (E.contents errors.old) (E.contents errors.new) }
 {
     input.watch(CALL_BYTES, most_watched(search.stats));
-    let status = find_order_watched(rt, blocks, search, input, output, errors);
+    let status = find_order_telling(rt, blocks, search, input, output, errors);
     report_calls(
         rt.alloc(),
         search.stats,
@@ -152,7 +154,7 @@ pub(crate) fn order<T: Clock + AllocGlobal, R: Read, W: Write, E: Write>(
 }
 
 /// Writes the text of an outcome other than an order, and returns the status.
-fn write_found<W: Write>(outcome: Outcome, text: &[u8], output: &mut W) -> u8
+fn write_unordered<W: Write>(outcome: Outcome, text: &[u8], output: &mut W) -> u8
     ensures { (Appends (W.contents output.old) (W.contents output.new) text.now
         × (result ≡ status_of outcome))
         ⊎ (AppendsPrefix (W.contents output.old) (W.contents output.new) text.now
@@ -180,7 +182,7 @@ fn without_output(fault: StreamFault) -> StreamFault
 /// Searches for an order of a history's calls at a level, and returns the lines in this order. If
 /// no order is found, writes the outcome or the line of a fault; the error is the status.
 #[tactic(auto, using(crate::proofs::Judgement::kept, crate::proofs::Judgement::unordered))]
-fn order_kept<R: Read, W: Write, V: Watcher>(
+fn order_in_memory<R: Read, W: Write, V: Watcher>(
     alloc: Global,
     how: Settings,
     input: &mut R,
@@ -198,8 +200,8 @@ fn order_kept<R: Read, W: Write, V: Watcher>(
     let mut text = Vec::new(alloc);
     match order_history(alloc, how, input, &mut text, watcher) {
         Ok(Outcome::Ordered) => Ok(text),
-        Ok(Outcome::Illegal) => Err(write_found(Outcome::Illegal, text.as_slice(), output)),
-        Ok(Outcome::Undecided) => Err(write_found(Outcome::Undecided, text.as_slice(), output)),
+        Ok(Outcome::Illegal) => Err(write_unordered(Outcome::Illegal, text.as_slice(), output)),
+        Ok(Outcome::Undecided) => Err(write_unordered(Outcome::Undecided, text.as_slice(), output)),
         Err(fault) => Err(end_by(without_output(fault), output)),
     }
 }
@@ -217,7 +219,7 @@ fn say_legal<W: Write>(line: &[u8], output: &mut W) -> u8
 /// Judges the text of an order of a level that was found, and returns the status. A linearization
 /// is judged as a history. Of another order the level is written: the state that the calls leave
 /// depends on the order.
-fn judge_text<W: Write>(alloc: Global, how: Settings, text: &[u8], output: &mut W) -> u8
+fn judge_found_text<W: Write>(alloc: Global, how: Settings, text: &[u8], output: &mut W) -> u8
     requires { is_block_count how.blocks ≡ true }
     ensures { JudgesText how.level how.blocks result text.now
         (W.contents output.old) (W.contents output.new) }
@@ -246,15 +248,15 @@ fn judge_found<R: Read, W: Write, V: Watcher>(
         (R.remaining input.old) (R.remaining input.new)
         (W.contents output.old) (W.contents output.new) }
 {
-    match order_kept(alloc, how, input, output, watcher) {
-        Ok(text) => judge_text(alloc, how, text.as_slice(), output),
+    match order_in_memory(alloc, how, input, output, watcher) {
+        Ok(text) => judge_found_text(alloc, how, text.as_slice(), output),
         Err(status) => status,
     }
 }
 
 /// Checks a history and the text of a linearization of its calls against a workload, and returns
 /// the status: 0 if the linearization covers the workload.
-fn hold_found<V: Read, W: Write>(
+fn check_found<V: Read, W: Write>(
     alloc: Global,
     blocks: u32,
     tasks: &mut V,
@@ -274,7 +276,7 @@ fn hold_found<V: Read, W: Write>(
 
 /// Searches for a linearization of the calls of a history, checks the history in this order against
 /// these tasks, or writes that there is no linearization, and returns the status.
-fn hold_in_any_order<F: Read, W: Write, V: Watcher>(
+fn check_in_any_order<F: Read, W: Write, V: Watcher>(
     alloc: Global,
     how: &JudgeSettings<'_>,
     tasks: &mut F,
@@ -292,8 +294,8 @@ fn hold_in_any_order<F: Read, W: Write, V: Watcher>(
         steps: how.search.steps,
     };
     let mut unread = history;
-    match order_kept(alloc, search, &mut unread, output, watcher) {
-        Ok(order) => hold_found(alloc, how.blocks, tasks, history, order.as_slice(), output),
+    match order_in_memory(alloc, search, &mut unread, output, watcher) {
+        Ok(order) => check_found(alloc, how.blocks, tasks, history, order.as_slice(), output),
         Err(status) => status,
     }
 }
@@ -314,14 +316,16 @@ fn judge_found_work<F: Read, R: Read, W: Write, V: Watcher>(
         (W.contents output.old) (W.contents output.new) }
 {
     match read_all(alloc, input) {
-        Ok(history) => { hold_in_any_order(alloc, how, tasks, history.as_slice(), output, watcher) }
+        Ok(history) => {
+            check_in_any_order(alloc, how, tasks, history.as_slice(), output, watcher)
+        }
         Err(fault) => end_by(fault, output),
     }
 }
 
 /// Judges a history in an order of a level that is found, or in a linearization that is checked
 /// against these tasks if there are any, or writes that there is none, and returns the status.
-fn judge_any_watched<F: Read + Drop, R: Read, W: Write, V: Watcher>(
+fn judge_any_order<F: Read + Drop, R: Read, W: Write, V: Watcher>(
     alloc: Global,
     how: &JudgeSettings<'_>,
     tasks: Option<F>,
@@ -345,8 +349,16 @@ fn judge_any_watched<F: Read + Drop, R: Read, W: Write, V: Watcher>(
     }
 }
 
-/// As `judge_any_watched`, with progress lines if the command line asks for progress.
-pub(crate) fn judge_any<T: Clock + AllocGlobal, F: Read + Drop, R: Read, W: Write, E: Write>(
+/// Judges a history in an order of a level that is found, or in a linearization that is checked
+/// against these tasks if there are any, or writes that there is none, and returns the status. If
+/// the command line asks for progress, writes progress lines to `errors` while it searches.
+pub(crate) fn judge_any_telling<
+    T: Clock + AllocGlobal,
+    F: Read + Drop,
+    R: Read,
+    W: Write,
+    E: Write,
+>(
     rt: &T,
     how: JudgeSettings<'_>,
     tasks: Option<F>,
@@ -364,8 +376,8 @@ pub(crate) fn judge_any<T: Clock + AllocGlobal, F: Read + Drop, R: Read, W: Writ
 {
     if how.search.progress {
         let mut teller = ProgressWatcher::new(rt, errors);
-        judge_any_watched(rt.alloc(), &how, tasks, input, output, &mut teller)
+        judge_any_order(rt.alloc(), &how, tasks, input, output, &mut teller)
     } else {
-        judge_any_watched(rt.alloc(), &how, tasks, input, output, &mut ())
+        judge_any_order(rt.alloc(), &how, tasks, input, output, &mut ())
     }
 }

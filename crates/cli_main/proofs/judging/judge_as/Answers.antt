@@ -10,7 +10,7 @@ returns-in-Err-clause-judged g c =
 pub returns-then-how-clause-judged : goal.returns-then-how-clause-judged
 returns-then-how-clause-judged g c =
     any_judged_as (g.F.Open.holds c.args.files.now) c.args.how.any_order c.args.how.tasks _ _ _ _ _ _ _
-    _ _ _ (search rules) c.in-Ok.ensures.opened c.in-Ok.ensures.unwritten c.judge_any.ensures.judged
+    _ _ _ (search rules) c.in-Ok.ensures.opened c.in-Ok.ensures.unwritten c.judge_any_telling.ensures.judged
 
 pub returns-else-how-clause-judged : goal.returns-else-how-clause-judged
 returns-else-how-clause-judged g c =

@@ -1,7 +1,7 @@
 use Rattle.std.proofs.Common.{ℕ, List, Option, ap, sym, subst}
 use Rattle.std.specs.Prelude.{option_map}
 use Rattle.cli_main.specs.Ordering.{JudgesAnyWith}
-use Rattle.cli_main.proofs.searching.judge_any_watched.Goals as goal
+use Rattle.cli_main.proofs.searching.judge_any_order.Goals as goal
 
 pub returns-in-None : goal.returns-in-None
 returns-in-None g c =

@@ -1,6 +1,6 @@
 use Rattle.judge_object.specs.declared.level.Level.TheVariants as level
 use Rattle.cli_main.proofs.Judgement.{judges_as}
-use Rattle.cli_main.proofs.searching.judge_text.Goals as goal
+use Rattle.cli_main.proofs.searching.judge_found_text.Goals as goal
 
 pub returns-in-Linearizable : goal.returns-in-Linearizable
 returns-in-Linearizable g c = judges_as level.Linearizable _ _ _ _ _ _ c.in-Linearizable.is (_, c.judge_alone.ensures)

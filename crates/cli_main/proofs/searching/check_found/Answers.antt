@@ -1,7 +1,7 @@
 use Rattle.std.proofs.Common.{leb-true}
 use Rattle.std.proofs.lemmas.Bool.{and_parts}
 use Rattle.cli_main.proofs.Judgement.{order_held}
-use Rattle.cli_main.proofs.searching.hold_found.Goals as goal
+use Rattle.cli_main.proofs.searching.check_found.Goals as goal
 
 pub judge_order_with_workload-requires-clause-some : goal.judge_order_with_workload-requires-clause-some
 judge_order_with_workload-requires-clause-some g c = leb-true _ _ (and_parts _ _ c.requires).0
