@@ -10,7 +10,7 @@ ghost use Rattle.vac_lines.specs.declared.stream_fault.StreamFault.TheVariants.{
 ghost use Rattle.cli_main.specs.Ending.{fault_line};
 ghost use Rattle.vac_lines.specs.Writing.{AppendsPrefix};
 
-use crate::status::{DONE, FAULT, end_by, end_by_settings, end_load_by, refuse, write_text};
+use crate::status::{end_by, end_by_settings, end_load_by, refuse, write_done, write_text};
 use crate::telling::run_with_progress;
 use crate::timer::LoadTimer;
 use cli_options::LoadOutput;
@@ -23,7 +23,10 @@ use std::io::Write;
 use std::sync::Wait;
 use std::thread::Threads;
 use std::time::Clock;
-use vac_lines::{StreamFault, print, write_and_flush};
+use vac_lines::{StreamFault, print};
+
+/// The refusal of a command line that asks for both the history and the attempts of a load.
+const BOTH_OUTPUTS: &[u8] = b"error: --history and --attempts do not go together\n";
 
 /// A load from the command line, with the runtime it runs on.
 #[derive(Drop)]
@@ -32,17 +35,6 @@ pub(crate) struct LoadRequest<'a, T> {
     pub(crate) settings: &'a Settings,
     /// The outputs that the command line asks for.
     pub(crate) how: LoadOutput,
-}
-
-/// Writes that a load cannot write both its history and its attempts, and returns the status of a
-/// refused command line.
-fn refuse_both<E: Write>(errors: &mut E) -> u8
-    ensures { result ≡ 2 }
-{
-    refuse(
-        b"error: --history and --attempts do not go together\n",
-        errors,
-    )
 }
 
 /// Runs a load, writes its two lines, the history of its calls or their attempts, and returns the
@@ -61,7 +53,7 @@ pub(crate) fn load<T: Threads + Wait + Clock + Sync + AllocGlobal, W: Write, E: 
 {
     let asked = LoadRequest { rt, settings, how };
     match (how.history, how.attempts) {
-        (true, true) => refuse_both(errors),
+        (true, true) => refuse(BOTH_OUTPUTS, errors),
         (true, false) => asked.note(output, errors),
         (false, true) => asked.trace(output, errors),
         (false, false) => asked.report(output, errors),
@@ -111,10 +103,7 @@ fn write_load<W: Write>(alloc: Global, report: &LoadReport, output: &mut W) -> u
     if print(report, &mut text).is_err() {
         return end_by(StreamFault::Memory, output);
     }
-    match write_and_flush(output, text.as_slice()) {
-        Ok(()) => DONE,
-        Err(_) => FAULT,
-    }
+    write_done(text.as_slice(), output)
 }
 
 /// The statistics of a load as a line, if they are asked for.

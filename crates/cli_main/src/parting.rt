@@ -12,14 +12,9 @@ use std::alloc::Global;
 use std::io::{Read, Write};
 use vac_lines::StreamFault;
 
-/// Writes that the words name no scope, and returns the status of a refused command line.
-fn refuse_scope<E: Write>(errors: &mut E) -> u8
-    ensures { result ≡ 2 }
-{
-    let text = b"error: part needs --customer N or --item KIND ID, each at most 64 times; \
-N and ID are from 1 to 4294967295, KIND is car, flight or room\n";
-    refuse(text, errors)
-}
+/// The refusal of a command line whose words name no scope.
+const UNKNOWN_SCOPE: &[u8] = b"error: part needs --customer N or --item KIND ID, \
+each at most 64 times; N and ID are from 1 to 4294967295, KIND is car, flight or room\n";
 
 /// Writes the part of a history on the scope of these customers and items, or the part of its cut
 /// at the end of the call of a line, and returns the status: 0 if the part was written.
@@ -54,7 +49,7 @@ pub(crate) fn part<R: Read, W: Write, E: Write>(
 {
     match read_names(alloc, words.customers.as_slice(), words.items.as_slice()) {
         Ok(Some(names)) => part_on(alloc, &names, words.until, input, output),
-        Ok(None) => refuse_scope(errors),
+        Ok(None) => refuse(UNKNOWN_SCOPE, errors),
         Err(_) => end_by(StreamFault::Memory, output),
     }
 }

@@ -13,7 +13,9 @@ use crate::judging::{judge, judge_opaque};
 use crate::load::load;
 use crate::parting::part;
 use crate::searching::order;
-use crate::status::{DONE, FAULT, REFUSED, end_by, end_by_settings, end_done, end_judged, refuse};
+use crate::status::{
+    DONE, REFUSED, end_by, end_by_settings, end_done, end_judged, refuse, write_done,
+};
 use clap::Error;
 use clap::error::ErrorKind;
 use cli_options::{Request, VERSION, read_asked};
@@ -25,7 +27,10 @@ use std::io::{Read, Write};
 use std::sync::Wait;
 use std::thread::Threads;
 use std::time::Clock;
-use vac_lines::{StreamFault, write_and_flush};
+use vac_lines::StreamFault;
+
+/// The refusal of a command line with a word that is no text.
+const UNREADABLE_WORD: &[u8] = b"error: a word of the command line is not valid UTF-8\n";
 
 /// The refusal of a command line whose word for a level names none.
 const UNKNOWN_LEVEL: &[u8] = b"error: --level is linearizable, sequential or serializable\n";
@@ -86,11 +91,7 @@ pub fn run_words<
 pub fn refuse_words<E: Write>(errors: &mut E) -> u8
     ensures { result ≡ 2 }
 {
-    let text = b"error: a word of the command line is not valid UTF-8\n";
-    if errors.write_all(text).is_ok() {
-        let _ = errors.flush();
-    }
-    REFUSED
+    refuse(UNREADABLE_WORD, errors)
 }
 
 /// Runs a script and returns the status.
@@ -158,10 +159,7 @@ fn show<W: Write, E: Write>(alloc: Global, error: &Error, output: &mut W, errors
 fn show_version<W: Write>(output: &mut W) -> u8
     ensures { ShowsError DisplayVersion result (W.contents output.old) (W.contents output.new) }
 {
-    match write_and_flush(output, VERSION.as_bytes()) {
-        Ok(()) => DONE,
-        Err(_) => FAULT,
-    }
+    write_done(VERSION.as_bytes(), output)
 }
 
 /// Writes the help, and returns the status.
@@ -172,8 +170,5 @@ fn show_help<W: Write>(alloc: Global, help: &Error, output: &mut W) -> u8
     let Ok(text) = format!(in alloc; "{help}") else {
         return end_by(StreamFault::Memory, output);
     };
-    match write_and_flush(output, text.as_bytes()) {
-        Ok(()) => DONE,
-        Err(_) => FAULT,
-    }
+    write_done(text.as_bytes(), output)
 }

@@ -7,14 +7,14 @@ ghost use Rattle.vac_lines.specs.Writing.{AppendsPrefix};
 ghost use Rattle.judge_linear.specs.declared.ordering.Outcome.TheVariants.{Ordered};
 ghost use Rattle.judge_linear.specs.Ordering.{HasText};
 ghost use Rattle.cli_main.specs.Ordering.{Orders, FindsNone, HoldsOrder, JudgesAnyOrder};
-ghost use Rattle.cli_main.specs.Ordering.{SaysLegal, JudgesText};
+ghost use Rattle.cli_main.specs.Ordering.{JudgesText};
 ghost use Rattle.cli_main.specs.Ordering.{HoldsInAnyOrder, JudgesAnyHeld, JudgesAnyWith, status_of};
 ghost use Rattle.cli_main.specs.Reporting.{ReportsBeside};
 ghost use Rattle.judge_coverage.specs.Watching.{inner_of};
 
 use crate::judging::judge_alone;
 use crate::reporting::{most_watched, report_calls};
-use crate::status::{DONE, FAULT, UNDECIDED, end_by, end_judged, write_text};
+use crate::status::{DONE, FAULT, UNDECIDED, end_by, end_judged, write_done, write_text};
 use crate::telling::has_passed;
 use cli_options::{JudgeSettings, SearchSettings};
 use judge_calls::{CALL_BYTES, judge_order_with_workload, read_all};
@@ -206,16 +206,6 @@ fn order_in_memory<R: Read, W: Write, V: Watcher>(
     }
 }
 
-/// Writes the line that names the level of an order that was found, and returns the status.
-fn say_legal<W: Write>(line: &[u8], output: &mut W) -> u8
-    ensures { SaysLegal line.now result (W.contents output.old) (W.contents output.new) }
-{
-    match write_and_flush(output, line) {
-        Ok(()) => DONE,
-        Err(_) => FAULT,
-    }
-}
-
 /// Judges the text of an order of a level that was found, and returns the status. A linearization
 /// is judged as a history. Of another order the level is written: the state that the calls leave
 /// depends on the order.
@@ -229,8 +219,8 @@ fn judge_found_text<W: Write>(alloc: Global, how: Settings, text: &[u8], output:
             let mut order = text;
             judge_alone(alloc, how.blocks, &mut order, output)
         }
-        Level::Sequential => say_legal(b"legal sequential\n", output),
-        Level::Serializable => say_legal(b"legal serializable\n", output),
+        Level::Sequential => write_done(b"legal sequential\n", output),
+        Level::Serializable => write_done(b"legal serializable\n", output),
     }
 }
 

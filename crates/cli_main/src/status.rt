@@ -2,10 +2,11 @@
 //! and progress.
 
 ghost use Rattle.std.specs.Prelude.{◌≡◌, ◌≤◌, ◌↔◌, IfSome};
+ghost use Rattle.std.specs.Io.KnownBytes.{Appends};
 ghost use Rattle.vac_lines.specs.Writing.{AppendsPrefix};
 ghost use Rattle.cli_main.specs.Ending.{fault_line, unopened_line, long_attempt_line};
 ghost use Rattle.cli_main.specs.Ending.{load_fault_line};
-ghost use Rattle.cli_main.specs.Ending.{EndsDone, EndsJudged};
+ghost use Rattle.cli_main.specs.Ending.{EndsDone, EndsJudged, EndsWithStatus};
 
 use load_run::LoadFault;
 use load_tasks::{BLOCKS_OF_ITEM, Settings};
@@ -46,6 +47,18 @@ pub(crate) fn write_text<D: Display + Drop, W: Write>(alloc: Global, value: D, o
     let mut text = Vec::new(alloc);
     if print(value, &mut text).is_ok() {
         write_last(text.as_slice(), output);
+    }
+}
+
+/// Writes a text, and returns the status: 0 if the text was written.
+pub(crate) fn write_done<W: Write>(text: &[u8], output: &mut W) -> u8
+    ensures { EndsWithStatus result
+        (Appends (W.contents output.old) (W.contents output.new) text.now)
+        (AppendsPrefix (W.contents output.old) (W.contents output.new) text.now) }
+{
+    match write_and_flush(output, text) {
+        Ok(()) => DONE,
+        Err(_) => FAULT,
     }
 }
 

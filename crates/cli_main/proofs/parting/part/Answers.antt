@@ -14,7 +14,7 @@ pub returns-in-Ok-None : goal.returns-in-Ok-None
 returns-in-Ok-None g c =
     unnamed_as c.args.words.now _ _ _ _ _
     (sym (ap (option_map shown) c.in-Ok-None.field-0-is) ∙ c.in-Ok-None.ensures)
-    c.as_slice.ensures.value c.as_slice-2.ensures.value c.refuse_scope.ensures
+    c.as_slice.ensures.value c.as_slice-2.ensures.value c.refuse.ensures
 
 pub returns-in-Err : goal.returns-in-Err
 returns-in-Err g c = inr (c.end_by.ensures.status, refl, c.end_by.ensures.line)
