@@ -426,7 +426,8 @@ def draw_pictures(folder, plan, found):
 
 
 def readme_lines(plan, found):
-    """The picture of the first setting, and for each one the program's rates beside those of its algorithm in C++."""
+    """The picture of the first setting, and for each one the program's rates beside those of its algorithm in C++, and
+    those of the other programs beside the program's."""
     name, options = next(iter(plan.settings.items()))
     counts = ", ".join(map(str, plan.clients))
     lines = [f"![completed tasks a second over clients: {title_of(name, options)}](docs/measured-{name}.svg)", "",
@@ -437,7 +438,25 @@ def readme_lines(plan, found):
         cells = [", ".join(ratio_cell(found[name, clients][OURS], found[name, clients][beside])
                            for clients in plan.clients) for beside in BESIDE]
         lines.append(row([title_of(name, options), *cells]))
+    return [*lines, "", *others_lines(plan, found)]
+
+
+def others_lines(plan, found):
+    """The rates of the other programs beside this program's, with the fewest and with the most clients."""
+    others = [program.name for program in plan.programs if program.name not in (OURS, *BESIDE)]
+    ends = sorted({plan.clients[0], plan.clients[-1]})
+    lines = ["Completed tasks a second of other programs, as a ratio to this program's (above 1 the other completes "
+             f"more), by {' and '.join(map(str, ends))} clients:", "",
+             row(["Setting", *others]), "|---|" + "--:|" * len(others)]
+    for name in plan.settings:
+        cells = [", ".join(f"{ratio_of(found[name, clients], other):.1f}" for clients in ends) for other in others]
+        lines.append(row([name, *cells]))
     return lines
+
+
+def ratio_of(programs, other):
+    """The median rate of another program through that of this one."""
+    return statistics.median(programs[other].rates()) / statistics.median(programs[OURS].rates())
 
 
 def write_pages(plan, found, lines):

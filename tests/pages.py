@@ -164,6 +164,18 @@ def holds_sizes():
         fault(script, told.stdout.strip() or told.stderr.strip() or "it did not come to its end")
 
 
+def holds_lines_of_libraries():
+    """The lines of the libraries that README.md gives are those that are counted, within a twentieth."""
+    page = ROOT / "README.md"
+    told = re.search(r"have ([\d,]+) lines of bodies\. Their contracts have ([\d,]+) lines, the definitions that they "
+                     r"cite ([\d,]+), and the proofs ([\d,]+)\.", page.read_text())
+    found = [int(number.replace(",", "")) for number in told.groups()] if told else []
+    counted = sizes.program_sizes(ROOT, ledger.functions)
+    want = [counted.bodies, counted.contracts, counted.specs, counted.proofs]
+    if not found or any(20 * abs(one - other) > other for one, other in zip(found, want)):
+        fault(page, f"lines of bodies, contracts, definitions and proofs of the libraries: {want}, not {found}")
+
+
 def sentences(text):
     """The sentences of a text, of which none goes over the end of a line; tables have none."""
     for line in text.splitlines():
@@ -263,6 +275,7 @@ def main():
         holds_links(page)
     holds_clauses()
     holds_sizes()
+    holds_lines_of_libraries()
     holds_plants()
     holds_sentences()
     holds_modules()

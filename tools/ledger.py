@@ -6,6 +6,7 @@ clauses with the definitions that these cite and the first sentence of each defi
 must-fail edits in their code, the tests that name them, and what is not said. That last stands right at
 the statement: lines `/// Not said: ..` of a call, lines `-- Not said: ..` above a definition."""
 
+import argparse
 import re
 from dataclasses import dataclass, field
 from functools import lru_cache
@@ -822,6 +823,8 @@ def pages():
 
 
 def main():
+    argparse.ArgumentParser(prog="./dev ledger", description=__doc__,
+                            formatter_class=argparse.RawDescriptionHelpFormatter).parse_args()
     written = pages()
     PAGES.mkdir(parents=True, exist_ok=True)
     for file in PAGES.glob("*.md"):

@@ -1,14 +1,11 @@
 #!/usr/bin/env python3
-"""How large the house is: lines of code, contracts, definitions and proofs of each library, how many clauses
-its functions have, and which names of definitions two crates have. tools/ledger.py writes the table into
-out/ledger/SIZES.md. With a folder as its argument, another tree that is laid out so, it prints that tree's
-table, so that two states of the house can be held against each other. With --objects, in front of the folder if one
-is given, it prints what a call of a shared object costs its readers: lines and clauses of the crates of objects,
-functions with many parameters, the walks of docs/ARCHITECTURE.md, and how many lines of definitions a call cites.
-With --tree it prints how many crates a reader meets, how far a call goes, and what a reader stumbles over."""
+"""Prints the sizes of the tree as a page: lines of code, contracts, definitions and proofs of each library, how many
+clauses its functions have, and which names of definitions two crates have. tools/ledger.py writes this page into
+out/ledger/SIZES.md. Given the folder of another tree with the same layout, it prints the page of that tree, so that
+two states can be compared."""
 
+import argparse
 import re
-import sys
 from dataclasses import dataclass
 from pathlib import Path
 
@@ -92,8 +89,28 @@ def libraries(root):
     return [root / "crates" / name for name in names if not TESTS.search(name)]
 
 
+def below(root, program):
+    """Returns the names of the libraries on which a program stands, directly or through others."""
+    import shape
+    uses, found, ahead = shape.crate_lines(root), set(), [program]
+    while ahead:
+        new = set(uses.get(ahead.pop(), ())) - found
+        found |= new
+        ahead += new
+    return found
+
+
+def program_sizes(root, functions):
+    """Returns the sizes of the libraries on which the program `vacation` stands, taken together."""
+    total, names = Sizes(), below(root, "vacation")
+    for folder in libraries(root):
+        if folder.name in names:
+            total.add(sizes_of(folder, functions))
+    return total
+
+
 def page(root, functions):
-    """The table of the libraries' sizes, as a page."""
+    """Returns the table of the libraries' sizes, as a page."""
     folders = libraries(root)
     out = ["# Sizes", "",
            "Of each library, made by `tools/sizes.py`: lines that are not empty, of code (with its contracts), of "
@@ -107,7 +124,7 @@ def page(root, functions):
         total.add(sizes)
         out.append(row(folder.name, sizes))
     shared = shared_names(folders)
-    out += [row("all", total), "",
+    out += [row("all", total), row("below `vacation`", program_sizes(root, functions)), "",
             f"Clauses a function: {total.clauses / max(1, total.functions):.2f}. Contract lines a body line: "
             f"{total.contracts / max(1, total.bodies):.2f}. Names of definitions in two libraries or more: "
             f"{len(shared)}."]
@@ -225,13 +242,23 @@ def objects(root, ledger):
 
 def main():
     import ledger
-    words = [word for word in sys.argv[1:] if word not in ("--objects", "--tree")]
-    root = Path(words[0]).resolve() if words else ledger.ROOT
-    if "--tree" in sys.argv:
+    options = argparse.ArgumentParser(prog="./dev sizes", description=__doc__)
+    kind = options.add_mutually_exclusive_group()
+    kind.add_argument("--objects", action="store_true", help="print what a call of a shared object costs its readers: "
+                      "lines and clauses of the crates of objects, functions with many parameters, the walks of "
+                      "docs/ARCHITECTURE.md, and how many lines of definitions a call cites")
+    kind.add_argument("--tree", action="store_true", help="print how many crates a reader meets, how many frames a "
+                      "call takes, and counts of code that is hard to read")
+    options.add_argument("folder", nargs="?", type=Path, default=ledger.ROOT, help="another tree (default: this one)")
+    words = options.parse_args()
+    root = words.folder.resolve()
+    if not (root / "crates.txt").is_file():
+        options.error(f"{words.folder} has no file crates.txt")
+    if words.tree:
         import shape
         print(shape.table(root, ledger), end="")
     else:
-        print(objects(root, ledger) if "--objects" in sys.argv else page(root, ledger.functions), end="")
+        print(objects(root, ledger) if words.objects else page(root, ledger.functions), end="")
 
 
 if __name__ == "__main__":
