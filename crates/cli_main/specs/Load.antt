@@ -133,8 +133,9 @@ LoadWriting = Settings → LoadSummary → Option (List ℕ) → Option (List �
 
 -- a load with fitting settings is run: its result is written, or a fault ends it and is named, or
 -- `stopped` describes its end; if the settings do not fit each other, the command line is refused.
--- If a fault ends the load before its result is written, only its progress is written to standard
--- error, if it reports that
+-- If a fault keeps the load from running to its end, only its progress is written to standard
+-- error, if it reports that. If it ran to its end, the lines about its end may stand there, even if
+-- its result was not written
 -- Not said: what is written to standard error about a refused command line.
 abbrev pub EndsLoad : (wrote stopped : LoadWriting) → LoadOutput → ℕ → Settings
     → Option (List ℕ) → Option (List ℕ) → Option (List ℕ) → Option (List ℕ) → Type 0
