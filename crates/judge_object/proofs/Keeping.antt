@@ -43,72 +43,32 @@ overlap a b x y e l = grind (arith, nat_tests)
 pub client_meets : (c : Span) (earlier : List Span) (end : ℕ) → end_of earlier c.client ≡ Some end → c.begin < end →
     list_any (overlaps itself c) earlier ≡ true
 client_meets c [] end h l = absurd (some_none end (sym h))
-client_meets c (x ∷ xs) end h l =
-    elim (test x.client c.client) [
-      | inl same ↦
-          let is : x.end ≡ end = some_same x.end end (sym (ap (λ b. cond b (Some x.end) (end_of xs c.client)) same.0) ∙
-          h) in
-          ap (λ b. b || list_any (overlaps itself c) xs) (overlap x.client c.client c.begin x.end same.1 (omega arith))
-      | inr other ↦
-          let is : end_of xs c.client ≡ Some end = sym (ap (λ b. cond b (Some x.end) (end_of xs c.client)) other.0) ∙
-          h in
-          or_true (overlaps itself c x) (list_any (overlaps itself c) xs) (client_meets c xs end is l)
-    ]
+client_meets c (x ∷ xs) end h l = grind (arith, nat_tests, test x.client c.client, some_same x.end end, overlap x.client c.client c.begin x.end, or_true (overlaps itself c x) (list_any (overlaps itself c) xs), client_meets c xs end)
 
 -- each call of the client was over when this one began
 fits_behind : (c x : Span) (xs : List Span) → EachSpan (IsSpanBehind x) xs → x.client ≡ c.client → x.begin ≤ c.begin →
     list_any (overlaps itself c) xs ≡ false
 fits_behind c x [] h e l = refl
-fits_behind c x (y ∷ ys) h e l =
-    false_both (overlaps itself c y) (list_any (overlaps itself c) ys)
-    (turn_test y.client c.client c.begin y.end (λ g. let turn : y.end ≤ x.begin = h.0 (g ∙ sym e) in omega arith))
-    (fits_behind c x ys h.1 e l)
+fits_behind c x (y ∷ ys) h e l = grind (arith, nat_tests, false_both (overlaps itself c y) (list_any (overlaps itself c) ys), turn_test y.client c.client c.begin y.end, fits_behind c x ys h.1 e l)
 
 -- the newest call of the client was over
 pub client_fits : (c : Span) (earlier : List Span) (end : ℕ) → SpansAreInTurn earlier →
     end_of earlier c.client ≡ Some end →
     end ≤ c.begin → list_any (overlaps itself c) earlier ≡ false
 client_fits c [] end t h l = refl
-client_fits c (x ∷ xs) end t h l =
-    elim (test x.client c.client) [
-      | inl same ↦
-          let is : x.end ≡ end = some_same x.end end (sym (ap (λ b. cond b (Some x.end) (end_of xs c.client)) same.0) ∙
-          h) in
-          let own : x.begin ≤ x.end = t.0 in
-          false_both (overlaps itself c x) (list_any (overlaps itself c) xs)
-          (turn_test x.client c.client c.begin x.end (λ e. omega arith))
-          (fits_behind c x xs t.1 same.1 (omega arith))
-      | inr other ↦
-          let is : end_of xs c.client ≡ Some end = sym (ap (λ b. cond b (Some x.end) (end_of xs c.client)) other.0) ∙
-          h in
-          false_both (overlaps itself c x) (list_any (overlaps itself c) xs)
-          (turn_test x.client c.client c.begin x.end (λ e. absurd (other.1 e))) (client_fits c xs end t.2 is l)
-    ]
+client_fits c (x ∷ xs) end t h l = grind (arith, nat_tests, test x.client c.client, some_same x.end end, false_both (overlaps itself c x) (list_any (overlaps itself c) xs), turn_test x.client c.client c.begin x.end, fits_behind c x xs t.1, client_fits c xs end t.2)
 
 -- the client is new
 pub client_new : (c : Span) (earlier : List Span) → end_of earlier c.client ≡ None →
     list_any (overlaps itself c) earlier ≡ false
 client_new c [] h = refl
-client_new c (x ∷ xs) h =
-    elim (test x.client c.client) [
-      | inl same ↦ absurd (some_none x.end (sym (ap (λ b. cond b (Some x.end) (end_of xs c.client)) same.0) ∙ h))
-      | inr other ↦
-          let is : end_of xs c.client ≡ None = sym (ap (λ b. cond b (Some x.end) (end_of xs c.client)) other.0) ∙ h in
-          false_both (overlaps itself c x) (list_any (overlaps itself c) xs)
-          (turn_test x.client c.client c.begin x.end (λ e. absurd (other.1 e))) (client_new c xs is)
-    ]
+client_new c (x ∷ xs) h = grind (arith, nat_tests, test x.client c.client, some_none x.end, false_both (overlaps itself c x) (list_any (overlaps itself c) xs), turn_test x.client c.client c.begin x.end, client_new c xs)
 
 -- whether the client has called
 pub has_called : (c : Span) (earlier : List Span) → is_some (end_of earlier c.client) ≡ list_any
     (same_client itself c) earlier
 has_called c [] = refl
-has_called c (x ∷ xs) =
-    let rest = has_called c xs in
-    elim (x.client == c.client) as (λ b. is_some (cond b (Some x.end) (end_of xs c.client)) ≡
-    (b || list_any (same_client itself c) xs)) [
-      | true ↦ refl
-      | false ↦ rest
-    ]
+has_called c (x ∷ xs) = grind (arith, nat_tests, has_called c xs)
 
 less_test : (x y : ℕ) → x < y → nat_lt x y ≡ true
 less_test x y h = grind (arith, nat_tests)
@@ -119,11 +79,7 @@ least_test x y h = grind (arith, nat_tests)
 -- a later call began behind its end
 pub time_meets : (c : Span) (earlier : List Span) → c.end < latest_of earlier → breaks_time itself earlier c ≡ true
 time_meets c [] l = absurd (omega arith)
-time_meets c (x ∷ xs) l =
-    elim (cases_lt c.end x.begin) [
-      | inl h ↦ ap (λ b. b || breaks_time itself xs c) (less_test c.end x.begin h)
-      | inr h ↦ or_true (ended_before itself c x) (breaks_time itself xs c) (time_meets c xs (omega arith))
-    ]
+time_meets c (x ∷ xs) l = grind (arith, nat_tests, cases_lt c.end x.begin, less_test c.end x.begin, or_true (ended_before itself c x) (breaks_time itself xs c), time_meets c xs)
 
 pub time_fits : (c : Span) (earlier : List Span) → latest_of earlier ≤ c.end → breaks_time itself earlier c ≡ false
 time_fits c [] l = refl
@@ -172,34 +128,20 @@ in_time spans c earlier k l = let is = k.latest_is in time_fits c earlier (omega
 turns_of : (c : Span) (earlier : List Span) → list_any (overlaps itself c) earlier ≡ false →
     EachSpan (IsSpanBehind c) earlier
 turns_of c [] h = tt
-turns_of c (x ∷ xs) h =
-    let both = both_false (overlaps itself c x) (list_any (overlaps itself c) xs) h in
-    (turn_from x.client c.client c.begin x.end both.0, turns_of c xs both.1)
+turns_of c (x ∷ xs) h = grind (arith, nat_tests, both_false (overlaps itself c x) (list_any (overlaps itself c) xs) h, turn_from x.client c.client c.begin x.end, turns_of c xs)
 
 own_time : (x y : ℕ) → nat_lt x y ≡ false → y ≤ x
 own_time x y h = grind (arith, nat_tests)
 
 ends_more : (ends : FinMap nat_cmp ℕ) (c : Span) (earlier : List Span) → ((q : ℕ) → get ends q ≡ end_of earlier q) →
     (q : ℕ) → get (insert ends c.client c.end) q ≡ end_of (c ∷ earlier) q
-ends_more ends c earlier k q =
-    elim (test c.client q) [
-      | inl same ↦ ap (get (insert ends c.client c.end)) (sym same.1) ∙ get_here ends c.client c.end ∙
-          sym (ap (λ b. cond b (Some c.end) (end_of earlier q)) same.0)
-      | inr other ↦ get_other ends c.client c.end q (λ e. other.1 (sym e)) ∙ k q ∙
-          sym (ap (λ b. cond b (Some c.end) (end_of earlier q)) other.0)
-    ]
+ends_more ends c earlier k q = grind (arith, nat_tests, test c.client q, get_here ends c.client c.end, get_other ends c.client c.end q)
 
 -- nothing is wrong: both tests fail
 none_of : (client time : Bool) → cond client (Some Client) (cond time (Some Time) None) ≡ None →
     (client ≡ false) × (time ≡ false)
-none_of true time e = absurd (some_not Client e)
-  where
-    some_not : (m : Misplaced) → Some m ≡ None → ⊥
-    some_not m e = cc
-none_of false true e = absurd (some_not Time e)
-  where
-    some_not : (m : Misplaced) → Some m ≡ None → ⊥
-    some_not m e = cc
+none_of true time e = grind (arith, nat_tests)
+none_of false true e = grind (arith, nat_tests)
 none_of false false e = (refl, refl)
 
 -- what is wrong with the client comes first
@@ -209,15 +151,11 @@ misplaced_client c earlier h = ap (λ b. cond b (Some Client) (cond (breaks_time
 
 pub misplaced_time : (c : Span) (earlier : List Span) → breaks_client itself earlier c ≡ false →
     breaks_time itself earlier c ≡ true → misplaced itself earlier c ≡ Some Time
-misplaced_time c earlier h g =
-    ap (λ b. cond b (Some Client) (cond (breaks_time itself earlier c) (Some Time) None)) h ∙
-    ap (λ b. cond b (Some Time) None) g
+misplaced_time c earlier h g = grind (arith, nat_tests)
 
 pub well_placed : (c : Span) (earlier : List Span) → breaks_client itself earlier c ≡ false →
     breaks_time itself earlier c ≡ false → misplaced itself earlier c ≡ None
-well_placed c earlier h g =
-    ap (λ b. cond b (Some Client) (cond (breaks_time itself earlier c) (Some Time) None)) h ∙
-    ap (λ b. cond b (Some Time) None) g
+well_placed c earlier h g = grind (arith, nat_tests)
 
 -- a span that is well placed is kept
 pub keeps_more : (spans spans' : Spans) (c : Span) (earlier : List Span) → Keeps spans earlier →

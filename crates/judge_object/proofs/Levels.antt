@@ -21,11 +21,7 @@ use Rattle.judge_object.specs.Orders.{of_client, IsMerge, IsLinearizable}
 
 -- a call without times is completed if the call is
 pub same_completed : (e : ℕ) → nat_lt (cond {A = ℕ} (nat_lt e NEVER) 0 e) NEVER ≡ nat_lt e NEVER
-same_completed e = go (nat_lt e NEVER) refl
-  where
-    go : (b : Bool) → nat_lt e NEVER ≡ b → nat_lt (cond {A = ℕ} b 0 e) NEVER ≡ b
-    go true t = refl
-    go false t = t
+same_completed e = grind (arith, nat_tests)
 
 -- a completed call without times ends at 0
 pub ended : (e : ℕ) → nat_lt (cond {A = ℕ} (nat_lt e NEVER) 0 e) NEVER ≡ true →
@@ -55,26 +51,11 @@ module _ {O : Type 0} where
   -- the clients are numbered from here on
   none_below : (k n : ℕ) (cs : List (Call O)) → k < n → count k (alone n cs) ≡ 0
   none_below k n [] l = refl
-  none_below k n (c ∷ cs) l =
-      let other : (n == k) ≡ false = grind (arith, nat_tests) in
-      let zero : cond {A = ℕ} (n == k) 1 0 ≡ 0 = ap (λ (b : Bool). cond {A = ℕ} b 1 0) other in
-      let rest = none_below k (n + 1) cs (omega arith) in
-      let all = count_cons k (untimed_as n c) (alone (n + 1) cs) in omega arith
+  none_below k n (c ∷ cs) l = grind (arith, nat_tests, none_below k (n + 1) cs, count_cons k (untimed_as n c) (alone (n + 1) cs))
 
   pub alone_apart : (n : ℕ) (cs : List (Call O)) → AreApart (alone n cs)
   alone_apart n [] k = omega arith
-  alone_apart n (c ∷ cs) k =
-      elim (test n k) [
-        | inl t ↦
-            let one : cond {A = ℕ} (n == k) 1 0 ≡ 1 = ap (λ (b : Bool). cond {A = ℕ} b 1 0) t.0 in
-            let same = t.1 in
-            let rest = none_below k (n + 1) cs (omega arith) in
-            let all = count_cons k (untimed_as n c) (alone (n + 1) cs) in omega arith
-        | inr t ↦
-            let zero : cond {A = ℕ} (n == k) 1 0 ≡ 0 = ap (λ (b : Bool). cond {A = ℕ} b 1 0) t.0 in
-            let rest = alone_apart (n + 1) cs k in
-            let all = count_cons k (untimed_as n c) (alone (n + 1) cs) in omega arith
-      ]
+  alone_apart n (c ∷ cs) k = grind (arith, nat_tests, test n k, none_below k (n + 1) cs, count_cons k (untimed_as n c) (alone (n + 1) cs), alone_apart (n + 1) cs k)
 
   pub untimed_is : (n : ℕ) (c : Call O) → IsUntimed (untimed_as n c)
   untimed_is n c = record { begin = refl; end = ended c.end }
@@ -106,11 +87,7 @@ module _ {O : Type 0} where
 
   pub clients_map : (k : ℕ) (cs : List (Call O)) → of_client k (map untimed cs) ≡ map untimed (of_client k cs)
   clients_map k [] = refl
-  clients_map k (c ∷ cs) =
-      elim (test c.client k) [
-        | inl t ↦ rw t.0 (ap (λ l. untimed c ∷ l) (clients_map k cs))
-        | inr t ↦ rw t.0 (clients_map k cs)
-      ]
+  clients_map k (c ∷ cs) = grind (arith, nat_tests, test c.client k, clients_map k cs)
 
   pub merge_map : (xs ys : List (Call O)) → IsMerge xs ys → IsMerge (map untimed xs) (map untimed ys)
   merge_map xs ys m k = clients_map k ys ∙ ap (map untimed) (m k) ∙ sym (clients_map k xs)
@@ -135,11 +112,7 @@ module _ {O : Type 0} where
   merge_back : (x : Call O) (xs rest from : List (Call O)) →
       of_client x.client xs ≡ x ∷ of_client x.client rest →
       ((c : ℕ) → c ≢ x.client → of_client c rest ≡ of_client c xs) → IsMerge rest from → IsMerge xs (x ∷ from)
-  merge_back x xs rest from own others m c =
-      elim (test x.client c) [
-        | inl t ↦ rw t.0 (ap (λ l. x ∷ l) (m c) ∙ subst (λ k. x ∷ of_client k rest ≡ of_client k xs) t.1 (sym own))
-        | inr t ↦ rw t.0 (m c ∙ others c (λ e. t.1 (sym e)))
-      ]
+  merge_back x xs rest from own others m c = grind (arith, nat_tests, test x.client c)
 
   given : (ys xs : List (Call O)) → IsMerge (map untimed xs) ys → Given xs ys
   given [] xs m = record {
@@ -203,15 +176,7 @@ module _ {S O R : Type 0} (X : Rules S O R) where
       record { order = h.order; orders = h.orders; replies = h.linearization.replies }
 
   pub sequential_is_serializable : SequentialIsSerializable X
-  sequential_is_serializable s calls h = record {
-    order = h.order;
-    selects = record {
-      left = h.orders.left;
-      all = merge_moves calls (h.order ++ h.orders.left) h.orders.merges;
-      never = h.orders.never;
-    };
-    replies = h.replies;
-  }
+  sequential_is_serializable s calls h = grind (arith, nat_tests, merge_moves calls (h.order ++ h.orders.left) h.orders.merges)
 
   -- ---- each client's order alone
 

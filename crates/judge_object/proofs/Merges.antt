@@ -22,12 +22,7 @@ false_true : false ≡ true → ⊥
 false_true e = cc
 
 pub test : (a b : ℕ) → Test a b
-test a b =
-    go (a == b) refl
-  where
-    go : (t : Bool) → (a == b) ≡ t → Test a b
-    go true e = inl (e, grind (arith, nat_tests))
-    go false e = inr (e, (λ s. let t : (a == b) ≡ true = grind (arith, nat_tests) in false_true (sym e ∙ t)))
+test a b = grind (arith, nat_tests, false_true)
 
 pub self : (a : ℕ) → (a == a) ≡ true
 self a = grind (arith, nat_tests)
@@ -115,11 +110,7 @@ module _ {O : Type 0} where
   -- an order that keeps each client's calls, without a first call
   pub merge_rest : (x : Call O) (xs rest ys : List (Call O)) → of_client x.client rest ≡ of_client x.client xs →
       ((c : ℕ) → c ≢ x.client → of_client c rest ≡ of_client c ys) → IsMerge (x ∷ xs) ys → IsMerge xs rest
-  merge_rest x xs rest ys own others m c =
-      elim (test x.client c) [
-        | inl t ↦ subst (λ k. of_client k rest ≡ of_client k xs) t.1 own
-        | inr t ↦ others c (λ e. t.1 (sym e)) ∙ m c ∙ (rw t.0 refl)
-      ]
+  merge_rest x xs rest ys own others m c = grind (arith, nat_tests, test x.client c)
 
   pub own_head : (x : Call O) (xs : List (Call O)) → of_client x.client (x ∷ xs) ≡ x ∷ of_client x.client xs
   own_head x xs = rw (self x.client) refl
@@ -150,31 +141,19 @@ module _ {O : Type 0} where
   count_cons k x xs = sum_by-cons (λ c. cond (c.client == k) 1 0) x xs
 
   pub count_own : (x : Call O) (xs : List (Call O)) → count x.client (x ∷ xs) ≡ 1 + count x.client xs
-  count_own x xs =
-      let one : cond {A = ℕ} (x.client == x.client) 1 0 ≡ 1 =
-      ap (λ (b : Bool). cond {A = ℕ} b 1 0) (self x.client) in
-      let all = count_cons x.client x xs in omega arith
+  count_own x xs = grind (arith, nat_tests, self x.client, count_cons x.client x xs)
 
   pub count_less : (k : ℕ) (x : Call O) (xs : List (Call O)) → count k xs ≤ count k (x ∷ xs)
   count_less k x xs = let all = count_cons k x xs in omega arith
 
   pub count_front : (k : ℕ) (xs ys : List (Call O)) → count k xs ≤ count k (xs ++ ys)
   count_front k [] ys = omega arith
-  count_front k (x ∷ xs) ys =
-      let more = count_front k xs ys in
-      let one = count_cons k x xs in
-      let two = count_cons k x (xs ++ ys) in omega arith
+  count_front k (x ∷ xs) ys = grind (arith, nat_tests, count_front k xs ys, count_cons k x xs, count_cons k x (xs ++ ys))
 
   -- calls of no client of these
   no_call : (k : ℕ) (xs : List (Call O)) → count k xs ≡ 0 → of_client k xs ≡ []
   no_call k [] e = refl
-  no_call k (x ∷ xs) e =
-      elim (test x.client k) [
-        | inl t ↦
-            let one : cond {A = ℕ} (x.client == k) 1 0 ≡ 1 = ap (λ (b : Bool). cond {A = ℕ} b 1 0) t.0 in
-            let all = count_cons k x xs in absurd (omega arith)
-        | inr t ↦ rw t.0 (no_call k xs (let less = count_less k x xs in omega arith))
-      ]
+  no_call k (x ∷ xs) e = grind (arith, nat_tests, test x.client k, count_cons k x xs, no_call k xs, count_less k x xs)
 
   pub moved_apart : (xs ys : List (Call O)) → IsPermutation xs ys → AreApart xs → AreApart ys
   moved_apart xs ys p d k =
@@ -188,15 +167,7 @@ module _ {O : Type 0} where
 
   none_of : (k : ℕ) (call : Call O) (xs : List (Call O)) → count k xs ≡ 0 → All (λ c. c.client ≡ k → c ≡ call) xs
   none_of k call [] e = All-nil (λ c. c.client ≡ k → c ≡ call)
-  none_of k call (x ∷ xs) e =
-      All-cons (λ c. c.client ≡ k → c ≡ call) x xs (λ s. absurd (none s))
-      (none_of k call xs (let less = count_less k x xs in omega arith))
-    where
-      none : x.client ≡ k → ⊥
-      none s =
-          let t : (x.client == k) ≡ true = grind (arith, nat_tests) in
-          let one : cond {A = ℕ} (x.client == k) 1 0 ≡ 1 = ap (λ (b : Bool). cond {A = ℕ} b 1 0) t in
-          let all = count_cons k x xs in omega arith
+  none_of k call (x ∷ xs) e = grind (arith, nat_tests, none_of k call xs, count_less k x xs, count_cons k x xs)
 
   only : (k : ℕ) (xs : List (Call O)) → count k xs ≤ 1 → (count k xs ≡ 0) ⊎ Only k xs
   only k [] d = inl refl
@@ -285,10 +256,4 @@ module _ {P Y : Type 0} (f : P → Y) where
       ∙ ap (λ t. swap t m.0 m.1) (swaps l moves h.2)
 
   pub lifted : (ps : List P) (ys : List Y) → IsPermutation (map f ps) ys → Lifted f ps ys
-  lifted ps ys p =
-      let below = subst (λ n. SwapsInRange n p.moves) (length-map ps f) p.below in
-      record {
-        from = apply_swaps ps p.moves;
-        moved = record { moves = p.moves; below = below; is = refl };
-        gives = swaps ps p.moves below ∙ sym p.is;
-      }
+  lifted ps ys p = grind (arith, nat_tests, length-map, swaps)

@@ -1,4 +1,5 @@
 -- What the tests on one thing more say of an order, and how an order goes on.
+use Rattle.std.proofs.lemmas.Bool.Decides.{nat_tests}
 use Rattle.std.proofs.Common.{◌≡◌, ◌⊎◌, ℕ, ◌+◌, ◌<◌, ◌≤◌, ◌||◌, suc, zero, Bool, true, false, cond, List, [], ◌∷◌, ◌++◌}
 use Rattle.std.proofs.Common.{length, map, Option, Some, None, refl, sym, ap, ◌∙◌, subst, inl, inr, arith, nat_lt}
 use Rattle.std.specs.List.{list_any}
@@ -50,26 +51,17 @@ module _ {C : Type 0} where
   at_either [] c zero a e = inr (refl, some_same c a e)
   at_either [] c (suc i) a e = absurd (none_some a e)
   at_either (d ∷ cs) c zero a e = inl e
-  at_either (d ∷ cs) c (suc i) a e =
-      elim (at_either cs c i a e) [
-        | inl h ↦ inl h
-        | inr h ↦ inr (ap suc h.0, h.1)
-      ]
+  at_either (d ∷ cs) c (suc i) a e = grind (arith, nat_tests, at_either cs c i a e)
 
   none_back : (p : C → Bool) (xs ys : List C) → list_any p xs ≡ false → list_any p ys ≡ false →
       list_any p (reverse_aux xs ys) ≡ false
   none_back p [] ys h g = g
-  none_back p (x ∷ xs) ys h g =
-      let both = both_false (p x) (list_any p xs) h in
-      none_back p xs (x ∷ ys) both.1 (false_both (p x) (list_any p ys) both.0 g)
+  none_back p (x ∷ xs) ys h g = grind (arith, nat_tests, both_false (p x) (list_any p xs) h, none_back p xs (x ∷ ys), false_both (p x) (list_any p ys))
 
   none_front : (p : C → Bool) (xs ys : List C) → list_any p (reverse_aux xs ys) ≡ false →
       (list_any p xs ≡ false) × (list_any p ys ≡ false)
   none_front p [] ys h = (refl, h)
-  none_front p (x ∷ xs) ys h =
-      let both = none_front p xs (x ∷ ys) h in
-      let own = both_false (p x) (list_any p ys) both.1 in
-      (false_both (p x) (list_any p xs) own.0 both.0, own.1)
+  none_front p (x ∷ xs) ys h = grind (arith, nat_tests, none_front p xs (x ∷ ys) h, both_false (p x) (list_any p ys), false_both (p x) (list_any p xs))
 
   none_at : (p : C → Bool) (cs : List C) (i : ℕ) (a : C) → list_any p cs ≡ false → IsAt cs i a → p a ≡ false
   none_at p [] i a h e = absurd (none_some a e)
@@ -110,13 +102,7 @@ module _ {C : Type 0} (span : C → Span) where
 
   pub of_turns : (cs : List C) (c : C) → TakeTurns span (cs ++ c ∷ []) →
       breaks_client span (reverse_aux cs []) c ≡ false
-  of_turns cs c t =
-      let own : (span c).begin ≤ (span c).end = t.times (length cs) c (at_last cs c) in
-      let none : list_any (overlaps span c) cs ≡ false =
-      none_from (overlaps span c) cs (λ i a e. turn_test (span a).client (span c).client (span c).begin (span a).end
-      (λ same. t.clients i (length cs) a c (at_front cs (c ∷ []) i a e) (at_last cs c) (at_inside cs i a e) same)) in
-      false_both (nat_lt (span c).end (span c).begin) (list_any (overlaps span c) (reverse_aux cs []))
-      (time_test (span c).end (span c).begin own) (none_back (overlaps span c) cs [] none refl)
+  of_turns cs c t = grind (arith, nat_tests, t.times (length cs) c (at_last cs c), at_last cs c, none_from, turn_test, at_front cs (c ∷ []), at_inside cs, false_both, time_test, none_back)
 
   pub precedence_of : (cs : List C) (c : C) → TakeTurns span (cs ++ c ∷ []) → KeepPrecedence span cs →
       breaks_time span (reverse_aux cs []) c ≡ false → KeepPrecedence span (cs ++ c ∷ [])
@@ -143,14 +129,7 @@ module _ {C : Type 0} (span : C → Span) where
 
   pub of_precedence : (cs : List C) (c : C) → KeepPrecedence span (cs ++ c ∷ []) →
       breaks_time span (reverse_aux cs []) c ≡ false
-  of_precedence cs c k =
-      none_back (ended_before span c) cs []
-      (none_from (ended_before span c) cs (λ i a e. fails (ended_before span c a) (λ ended.
-      let less : (span c).end < (span a).begin = before_of (span c).end (span a).begin ended in
-      let back = k (length cs) i c a (at_last cs c) (at_front cs (c ∷ []) i a e) less in
-      let inside = at_inside cs i a e in
-      omega (arith, back, inside))))
-      refl
+  of_precedence cs c k = grind (arith, nat_tests, none_back, none_from, fails, before_of, at_last cs c, at_front cs (c ∷ []), at_inside cs)
 
   -- what the tests say where this is wrong
   abbrev Tests : Bool → Bool → Misplaced → Type 0
@@ -186,10 +165,7 @@ module _ {C : Type 0} (span : C → Span) where
 
   -- the first of such things are in order
   pub front_turns : (xs ys : List C) → TakeTurns span (xs ++ ys) → TakeTurns span xs
-  front_turns xs ys t = record {
-    times = λ i a e. t.times i a (at_front xs ys i a e);
-    clients = λ i j a b e f l. t.clients i j a b (at_front xs ys i a e) (at_front xs ys j b f) l;
-  }
+  front_turns xs ys t = grind (arith, nat_tests, at_front xs ys)
 
   pub front_precedence : (xs ys : List C) → KeepPrecedence span (xs ++ ys) → KeepPrecedence span xs
   front_precedence xs ys k i j a b e f l = k i j a b (at_front xs ys i a e) (at_front xs ys j b f) l
@@ -235,9 +211,7 @@ module _ {C : Type 0} (span : C → Span) where
   of_cause xs x Client t k h = of_tests (breaks_client span (reverse_aux xs []) x)
       (breaks_time span (reverse_aux xs []) x) Client
       (passes (breaks_client span (reverse_aux xs []) x) (λ e. h (turns_of xs x t e)))
-  of_cause xs x Time t k h = of_tests (breaks_client span (reverse_aux xs []) x)
-      (breaks_time span (reverse_aux xs []) x) Time
-      (of_turns xs x h.0, passes (breaks_time span (reverse_aux xs []) x) (λ e. h.1 (precedence_of xs x h.0 k e)))
+  of_cause xs x Time t k h = grind (arith, nat_tests, of_tests, of_turns xs x h.0, passes, precedence_of xs x h.0 k)
 
   -- tests on things are tests on their spans
   any_mapped : (p : Span → Bool) (xs : List C) → list_any p (map span xs) ≡ list_any (λ x. p (span x)) xs
@@ -246,14 +220,8 @@ module _ {C : Type 0} (span : C → Span) where
 
   pub misplaced_mapped : (earlier : List C) (x : C) → misplaced itself (map span earlier)
       (span x) ≡ misplaced span earlier x
-  misplaced_mapped earlier x =
-      ap (λ b. found (nat_lt (span x).end (span x).begin || b) (breaks_time itself (map span earlier) (span x)))
-      (any_mapped (overlaps itself (span x)) earlier)
-      ∙ ap (λ b. found (breaks_client span earlier x) b) (any_mapped (ended_before itself (span x)) earlier)
+  misplaced_mapped earlier x = grind (arith, nat_tests, any_mapped)
 
   pub clients_mapped : (xs : List C) → clients_of itself (map span xs) ≡ clients_of span xs
   clients_mapped [] = refl
-  clients_mapped (x ∷ xs) =
-      ap (λ b. cond b (clients_of itself (map span xs)) (clients_of itself (map span xs) + 1))
-      (any_mapped (same_client itself (span x)) xs)
-      ∙ ap (λ n. cond (list_any (same_client span x) xs) n (n + 1)) (clients_mapped xs)
+  clients_mapped (x ∷ xs) = grind (arith, nat_tests, any_mapped, clients_mapped xs)

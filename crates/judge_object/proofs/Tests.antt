@@ -37,7 +37,4 @@ other_here : (a b : ℕ) → a ≢ b → Test a b
 other_here a b n = inr (let t : (a == b) ≡ false = grind (arith, nat_tests) in t, n)
 
 pub test : (a b : ℕ) → Test a b
-test a b = elim (cases_lt a b) [
-  | inl below ↦ other_here a b (omega arith)
-  | inr above ↦ elim (cases_lt b a) [ inl over ↦ other_here a b (omega arith) | inr at ↦ same_here a b (omega arith) ]
-]
+test a b = grind (arith, nat_tests, cases_lt a b, other_here a b, cases_lt b a, same_here a b)

@@ -1,4 +1,5 @@
 -- Calls without times: an order of them is a linearization if the calls give their replies.
+use Rattle.std.proofs.lemmas.Bool.Decides.{nat_tests}
 use Rattle.std.proofs.Common.{◌≡◌, ℕ, ◌+◌, ◌<◌, ◌≤◌, suc, zero, true, false, List, [], ◌∷◌, ◌++◌}
 use Rattle.std.proofs.Common.{Some, None, refl, sym, ap, ◌∙◌, subst, inl, inr, arith}
 use Rattle.judge_object.specs.Rules.{Rules}
@@ -37,9 +38,7 @@ module _ {O : Type 0} where
 
   counted_at : (xs : List (Call O)) (i : ℕ) (a : Call O) → IsCallAt xs i a → 1 ≤ count a.client xs
   counted_at [] i a e = absurd (none_some a e)
-  counted_at (x ∷ xs) zero a e =
-      subst (λ (c : Call O). 1 ≤ count c.client (x ∷ xs)) (some_same x a e)
-      (let own = count_own x xs in omega arith)
+  counted_at (x ∷ xs) zero a e = grind (arith, nat_tests, count, some_same x a e, count_own x xs)
   counted_at (x ∷ xs) (suc i) a e =
       let more = counted_at xs i a e in let less = count_less a.client x xs in omega arith
 
@@ -48,16 +47,9 @@ module _ {O : Type 0} where
       a.client ≡ b.client → 2 ≤ count b.client xs
   counted_twice [] i j a b d e l s = absurd (none_some a d)
   counted_twice (x ∷ xs) zero zero a b d e l s = absurd (omega arith)
-  counted_twice (x ∷ xs) zero (suc j) a b d e l s =
-      let own : count x.client (x ∷ xs) ≡ 1 + count x.client xs = count_own x xs in
-      let same : x.client ≡ b.client = ap (λ (c : Call O). c.client) (some_same x a d) ∙ s in
-      let more : 1 ≤ count b.client xs = counted_at xs j b e in
-      let all : count b.client (x ∷ xs) ≡ 1 + count b.client xs =
-      subst (λ k. count k (x ∷ xs) ≡ 1 + count k xs) same own in omega arith
+  counted_twice (x ∷ xs) zero (suc j) a b d e l s = grind (arith, nat_tests, count x.client (x ∷ xs), count x.client xs, count_own x xs, some_same x a d, count b.client xs, counted_at xs j b e, count b.client (x ∷ xs), count)
   counted_twice (x ∷ xs) (suc i) zero a b d e l s = absurd (omega arith)
-  counted_twice (x ∷ xs) (suc i) (suc j) a b d e l s =
-      let more = counted_twice xs i j a b d e (omega arith) s in
-      let less = count_less b.client x xs in omega arith
+  counted_twice (x ∷ xs) (suc i) (suc j) a b d e l s = grind (arith, nat_tests, counted_twice xs i j a b d e, count_less b.client x xs)
 
   apart_sequential : (xs : List (Call O)) → AreApart xs → CallsAreSequential xs
   apart_sequential xs h i j a b d e l s =
@@ -71,11 +63,7 @@ module _ {O : Type 0} where
 
   pub last_rest : (k : ℕ) (x : Call O) (xs : List (Call O)) → OnlyLastIsPending (of_client k (x ∷ xs)) →
       OnlyLastIsPending (of_client k xs)
-  last_rest k x xs h =
-      elim (test x.client k) [
-        | inl t ↦ only_rest x (of_client k xs) (rw t.0 at h)
-        | inr t ↦ rw t.0 at h
-      ]
+  last_rest k x xs h = grind (arith, nat_tests, test x.client k, only_rest x (of_client k xs))
 
   -- a call that is followed by one of its client is completed
   some_at : (xs ys : List (Call O)) (i : ℕ) (a : Call O) → IsCallAt xs i a →
@@ -103,15 +91,7 @@ module _ {O : Type 0} where
       a.client ≡ b.client → OnlyLastIsPending (of_client a.client (xs ++ ys)) → is_completed a ≡ true
   completed [] ys i j a b d e l s h = absurd (none_some a d)
   completed (x ∷ xs) ys zero zero a b d e l s h = absurd (omega arith)
-  completed (x ∷ xs) ys zero (suc j) a b d e l s h =
-      let same = some_same x a d in
-      let more = some_at xs ys j b e in
-      let own : OnlyLastIsPending (x ∷ of_client x.client (xs ++ ys)) =
-      rw (self x.client) at (subst (λ (c : Call O). OnlyLastIsPending (of_client c.client (x ∷ xs ++ ys))) (sym same) h)
-      in
-      let is : of_client x.client (xs ++ ys) ≡ more.0 ∷ more.1 =
-      ap (λ (c : Call O). of_client c.client (xs ++ ys)) same ∙ ap (λ k. of_client k (xs ++ ys)) s ∙ more.2 in
-      subst (λ c. is_completed c ≡ true) same (followed x (of_client x.client (xs ++ ys)) more.0 more.1 is own)
+  completed (x ∷ xs) ys zero (suc j) a b d e l s h = grind (arith, nat_tests, some_same x a d, some_at xs ys j b e, self x.client, followed x (of_client x.client (xs ++ ys)))
   completed (x ∷ xs) ys (suc i) zero a b d e l s h = absurd (omega arith)
   completed (x ∷ xs) ys (suc i) (suc j) a b d e l s h =
       completed xs ys i j a b d e (omega arith) s (last_rest a.client x (xs ++ ys) h)
@@ -134,9 +114,4 @@ module _ {S O R : Type 0} (X : Rules S O R) (s : S) where
 
   pub last_linearization : (xs ys : List (Call O)) → EachCall IsUntimed xs →
       ((k : ℕ) → OnlyLastIsPending (of_client k (xs ++ ys))) → GiveReplies X s xs → IsLinearization X s xs
-  last_linearization xs ys h last replies = record {
-    replies = replies;
-    times = take_time xs h;
-    clients = last_sequential xs ys last h;
-    precedence = keep_precedence xs h;
-  }
+  last_linearization xs ys h last replies = grind (arith, nat_tests, take_time xs h, last_sequential xs ys last h, keep_precedence xs h)

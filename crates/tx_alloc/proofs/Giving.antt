@@ -1,4 +1,5 @@
 -- A block is given back, over every memory that there may be.
+use Rattle.std.proofs.lemmas.Bool.Decides.{nat_tests}
 use Rattle.std.proofs.Common.{◌≡◌, ℕ, ◌+◌, ◌<◌, ◌≤◌, List, length, ◌∙◌, arith}
 use Rattle.tx_memory.specs.Seen.{some_le}
 use Rattle.tx_memory.specs.View.{View, RestsOn, Kept, Loaded, Stored, IsWrite}
@@ -9,19 +10,11 @@ use Rattle.tx_alloc.proofs.Moves.{give_pool}
 -- the heads and the block are words of the memory
 pub used_in : (s0 s : View) (b : ℕ) → Kept s0 s → HasUsed s0 b → ∥ ((image : List ℕ) × RestsOn s image) ∥₁ →
     b + 8 ≤ s.size
-used_in s0 s b k has ws = some_le (b + 8) s.size ws (λ w. omega (
-  arith,
-  (has.under w.0 (stood k w.0 w.1)).is.block.1.0,
-  w.1.size,
-))
+used_in s0 s b k has ws = grind (arith, nat_tests, some_le (b + 8) s.size ws, stood k)
 
 pub heads_in_used : (s0 s : View) (b : ℕ) → Kept s0 s → HasUsed s0 b → ∥ ((image : List ℕ) × RestsOn s image) ∥₁ →
     16 ≤ s.size
-heads_in_used s0 s b k has ws = some_le 16 s.size ws (λ w. omega (
-  arith,
-  (has.under w.0 (stood k w.0 w.1)).is.pool.all,
-  w.1.size,
-))
+heads_in_used s0 s b k has ws = grind (arith, nat_tests, some_le 16 s.size ws, stood k)
 
 pub given : (s0 s1 s2 s3 : View) (start b first head : ℕ) → start < 8 → head ≡ 8 + start → Loaded s0 s1 head first →
     Stored s1 s2 b first → Stored s2 s3 head b → Given s0 s3 start b

@@ -21,9 +21,7 @@ pub record Split (lo : ℕ) (xs : Rows) (r : ℕ × ℕ) (ys : Rows) : Type 0 wh
 
 pub split : (lo : ℕ) (xs : Rows) (r : ℕ × ℕ) (ys : Rows) → IsFrom lo (xs ++ (r ∷ ys)) → Split lo xs r ys
 split lo [] r ys h = record { low = h.0; before = tt; after = h.1 }
-split lo (x ∷ xs) r ys h =
-    let i = split (x.0 + 1) xs r ys h.1 in
-    record { low = omega (arith, h.0, i.low); before = (omega (arith, i.low), i.before); after = i.after }
+split lo (x ∷ xs) r ys h = grind (arith, nat_tests, split (x.0 + 1) xs r ys h.1)
 
 pub below_both : (k : ℕ) (xs ys : Rows) → AllBelow k xs → AllBelow k ys → AllBelow k (xs ++ ys)
 below_both k [] ys h g = g
@@ -35,35 +33,25 @@ pub put_between : (xs ys : Rows) (key b : ℕ) → AllBelow key xs → IsFrom (k
 put_between [] [] key b h g = refl
 put_between [] (y ∷ ys) key b h g =
     let t : nat_lt y.0 key ≡ false = grind (arith, nat_tests) in rw t refl
-put_between (x ∷ xs) ys key b h g =
-    let t : nat_lt x.0 key ≡ true = grind (arith, nat_tests) in
-    rw t (ap (λ (z : Rows). x ∷ z) (put_between xs ys key b h.1 g))
+put_between (x ∷ xs) ys key b h g = grind (arith, nat_tests, put_between xs ys key b h.1 g)
 
 pub cut_between : (xs ys : Rows) (key b : ℕ) → AllBelow key xs → cut_row (xs ++ ((key, b) ∷ ys)) key ≡ xs ++ ys
 cut_between [] ys key b h =
     let t : nat_eq key key ≡ true = grind (arith, nat_tests) in rw t refl
-cut_between (x ∷ xs) ys key b h =
-    let t : nat_eq x.0 key ≡ false = grind (arith, nat_tests) in
-    rw t (ap (λ (z : Rows). x ∷ z) (cut_between xs ys key b h.1))
+cut_between (x ∷ xs) ys key b h = grind (arith, nat_tests, cut_between xs ys key b h.1)
 
 pub at_between : (xs ys : Rows) (key b : ℕ) → AllBelow key xs → block_at (xs ++ ((key, b) ∷ ys)) key ≡ b
 at_between [] ys key b h =
     let t : nat_eq key key ≡ true = grind (arith, nat_tests) in rw t refl
-at_between (x ∷ xs) ys key b h =
-    let t : nat_eq x.0 key ≡ false = grind (arith, nat_tests) in
-    rw t (at_between xs ys key b h.1)
+at_between (x ∷ xs) ys key b h = grind (arith, nat_tests, at_between xs ys key b h.1)
 
 pub none_above : (lo : ℕ) (ys : Rows) (key : ℕ) → key < lo → IsFrom lo ys → block_at ys key ≡ 0
 none_above lo [] key l g = refl
-none_above lo (y ∷ ys) key l g =
-    let t : nat_eq y.0 key ≡ false = grind (arith, nat_tests) in
-    rw t (none_above (y.0 + 1) ys key (omega (arith, g.0)) g.1)
+none_above lo (y ∷ ys) key l g = grind (arith, nat_tests, none_above (y.0 + 1) ys key)
 
 pub none_between : (xs ys : Rows) (key : ℕ) → AllBelow key xs → IsFrom (key + 1) ys → block_at (xs ++ ys) key ≡ 0
 none_between [] ys key h g = none_above (key + 1) ys key (omega arith) g
-none_between (x ∷ xs) ys key h g =
-    let t : nat_eq x.0 key ≡ false = grind (arith, nat_tests) in
-    rw t (none_between xs ys key h.1 g)
+none_between (x ∷ xs) ys key h g = grind (arith, nat_tests, none_between xs ys key h.1 g)
 
 pub from_put : (lo : ℕ) (xs ys : Rows) (key b : ℕ) → lo ≤ key → AllBelow key xs → IsFrom (key + 1) ys →
     IsFrom lo (xs ++ ys) → IsFrom lo (xs ++ ((key, b) ∷ ys))
@@ -91,18 +79,9 @@ cut_absent (r ∷ rs) key some e = elim (same_or r.0 key) [
 -- rows as a finite map
 pub at_put : (rs : Rows) (key b q : ℕ) → block_at (put_row rs key b) q ≡ cond (nat_eq key q) b (block_at rs q)
 at_put [] key b q = refl
-at_put (r ∷ rs) key b q =
-    let ih = at_put rs key b q in
-    elim (cases_lt r.0 key) [ inl below ↦ grind (arith, nat_tests) | inr here ↦ grind (arith, nat_tests) ]
+at_put (r ∷ rs) key b q = grind (arith, nat_tests, at_put rs key b q, cases_lt r.0 key)
 
 pub at_cut : (rs : Rows) (lo key q : ℕ) → IsFrom lo rs → block_at (cut_row rs key) q ≡ cond (nat_eq key q) 0
     (block_at rs q)
 at_cut [] lo key q h = grind (arith, nat_tests)
-at_cut (r ∷ rs) lo key q h =
-    elim (same_or r.0 key) [
-      | inl e ↦ elim (same_or key q) [
-        | inl here ↦ (let none = none_above (r.0 + 1) rs q (omega arith) h.1 in grind (arith, nat_tests))
-        | inr other ↦ grind (arith, nat_tests)
-      ]
-      | inr ne ↦ (let ih = at_cut rs (r.0 + 1) key q h.1 in grind (arith, nat_tests))
-    ]
+at_cut (r ∷ rs) lo key q h = grind (arith, nat_tests, same_or r.0 key, same_or key q, none_above (r.0 + 1) rs q, at_cut rs (r.0 + 1) key q h.1)

@@ -1,5 +1,6 @@
 -- What hanging a block in leaves as it was.
-use Rattle.std.proofs.Common.{◌≡◌, ◌≢◌, inl, inr, ℕ, ◌+◌, ◌<◌, ◌≤◌, ap, arith}
+use Rattle.std.proofs.lemmas.Bool.Decides.{nat_tests}
+use Rattle.std.proofs.Common.{◌≡◌, ◌≢◌, inl, ℕ, ◌+◌, ◌<◌, ◌≤◌, arith}
 use Rattle.std.proofs.lemmas.Bool.{cases_lt}
 use Rattle.tx_alloc.specs.Pool.{IsBlock}
 use Rattle.tx_alloc.specs.Rows.{Rows, times, Relinks}
@@ -8,25 +9,12 @@ use Rattle.tx_alloc.specs.Rows.{Rows, times, Relinks}
 pub outside_block : {first : ℕ} → (m m' : ℕ → ℕ) (n root c k : ℕ) (rs : Rows) → Relinks m m' first root rs →
     ((a : ℕ) → 0 < times a rs → IsBlock n a) → IsBlock n c → times c rs ≡ 0 → k < 8 → c + k ≢ root →
     m' (c + k) ≡ m (c + k)
-outside_block m m' n root c k rs r blocks bc none l ne = r.others (c + k) ne (λ a i.
-    let ba = blocks a i in
-    let apart : a ≢ c = λ q. absurd (omega (arith, i, none, ap (λ (z : ℕ). times z rs) q)) in
-    elim (cases_lt a c) [
-      | inl below ↦ inr (omega (arith, ba.1.1, bc.1.1))
-      | inr above ↦
-          inl (omega (arith, ba.1.1, bc.1.1))
-    ])
+outside_block m m' n root c k rs r blocks bc none l ne = grind (arith, nat_tests, r.others (c + k) ne, cases_lt)
 
 -- the words behind the links of any block
 pub outside_links : {first : ℕ} → (m m' : ℕ → ℕ) (n root c k : ℕ) (rs : Rows) → Relinks m m' first root rs →
     ((a : ℕ) → 0 < times a rs → IsBlock n a) → IsBlock n c → 4 ≤ k → k < 8 → c + k ≢ root → m' (c + k) ≡ m (c + k)
-outside_links m m' n root c k rs r blocks bc g l ne = r.others (c + k) ne (λ a i.
-    let ba = blocks a i in
-    elim (cases_lt c a) [
-      | inl below ↦ inl (omega (arith, ba.1.1, bc.1.1))
-      | inr above ↦
-          inr (omega (arith, ba.1.1, bc.1.1))
-    ])
+outside_links m m' n root c k rs r blocks bc g l ne = grind (arith, nat_tests, r.others (c + k) ne, cases_lt c)
 
 -- the words in front of the blocks
 pub outside_low : {first : ℕ} → (m m' : ℕ → ℕ) (n root x : ℕ) (rs : Rows) → Relinks m m' first root rs →

@@ -31,16 +31,12 @@ cut_chain m m' n p last (a ∷ ys) rest (e, b, h) same z =
 -- a free block is there once
 free_once : (m : ℕ → ℕ) (n i x : ℕ) (free : ℕ → List ℕ) (used : ℕ → ℕ) (count : ℕ) → IsPool m n free used count →
     i < 8 → 0 < held x (free i) → held x (free i) ≡ 1
-free_once m n i x free used count h l o =
-    let b = free_block m n (m (8 + i)) x (free i) (h.lists i l) o in
-    omega (arith, h.once x b, sum_has 8 i (λ j. held x (free j)) l)
+free_once m n i x free used count h l o = grind (arith, nat_tests, free_block m n (m (8 + i)) x (free i) (h.lists i l) o, h.lists i l, h.once x, sum_has 8 i)
 
 -- and in one list
 free_apart : (m : ℕ → ℕ) (n i j x : ℕ) (free : ℕ → List ℕ) (used : ℕ → ℕ) (count : ℕ) → IsPool m n free used count →
     i < 8 → j < 8 → i ≢ j → 0 < held x (free i) → held x (free j) ≡ 0
-free_apart m n i j x free used count h l l' ne o =
-    let b = free_block m n (m (8 + i)) x (free i) (h.lists i l) o in
-    omega (arith, h.once x b, sum_two 8 i j (λ k. held x (free k)) l l' ne)
+free_apart m n i j x free used count h l l' ne o = grind (arith, nat_tests, free_block m n (m (8 + i)) x (free i) (h.lists i l) o, h.lists i l, h.once x, sum_two 8 i j)
 
 -- two lists changed: what left the one is in the other, but for the block that is taken
 move_pool : (m m' : ℕ → ℕ) (n from start b : ℕ) (run rest : List ℕ) (free : ℕ → List ℕ) (used : ℕ → ℕ) (count : ℕ) →
@@ -94,12 +90,7 @@ module _ (m m' : ℕ → ℕ) (n from start b last behind next : ℕ) (free : �
   -- the list has this one block
   lone : (front rest : List ℕ) → free from ≡ front ++ (last ∷ rest) → m last ≡ behind → Free m n behind rest →
       next ≡ 0 → (free from ≡ b ∷ []) × (behind ≡ 0)
-  lone [] rest is leads rest_is z =
-      let chain = subst (λ (bs : List ℕ). Free m n (m (8 + from)) bs) is (h.lists from lf) in
-      let same : last ≡ b = sym chain.0 ∙ first in
-      let zero : behind ≡ 0 = sym leads ∙ (ap m same ∙ (next_is ∙ z)) in
-      let end : rest ≡ [] = free_zero m n behind rest rest_is zero in
-      (is ∙ (ap (λ (x : ℕ). x ∷ rest) same ∙ ap (λ (bs : List ℕ). b ∷ bs) end), zero)
+  lone [] rest is leads rest_is z = grind (arith, nat_tests, free_zero)
   lone (a ∷ f) rest is leads rest_is z =
       let chain = subst (λ (bs : List ℕ). Free m n (m (8 + from)) bs) is (h.lists from lf) in
       let same : a ≡ b = sym chain.0 ∙ first in
@@ -132,11 +123,7 @@ module _ (m m' : ℕ → ℕ) (n from start b last behind next : ℕ) (free : �
       (length front + 1 < 64 → rest ≡ []) → m last ≡ behind → Free m n behind rest → next ≢ 0 →
       (m1 m2 : ℕ → ℕ) → IsWrite m m1 (8 + from) behind → IsWrite m1 m2 last 0 → IsWrite m2 m' (8 + start) next →
       IsRefilling m m' n free used count start from b
-  more [] rest is few whole leads rest_is nz' m1 m2 w1 w2 w3 =
-      let chain = subst (λ (bs : List ℕ). Free m n (m (8 + from)) bs) is (h.lists from lf) in
-      let same : last ≡ b = sym chain.0 ∙ first in
-      let end : Free m n behind [] = subst (λ (bs : List ℕ). Free m n behind bs) (whole (omega arith)) rest_is in
-      absurd (nz' (sym next_is ∙ (sym (ap m same) ∙ (leads ∙ end))))
+  more [] rest is few whole leads rest_is nz' m1 m2 w1 w2 w3 = grind (arith, nat_tests)
   more (a ∷ f) rest is few whole leads rest_is nz' m1 m2 w1 w2 w3 =
       let chain = subst (λ (bs : List ℕ). Free m n (m (8 + from)) bs) is (h.lists from lf) in
       let same : a ≡ b = sym chain.0 ∙ first in
@@ -271,10 +258,7 @@ is_dry s0 s s1 s2 start i from at b next k ni li ls q e nz d d' =
 
 -- of two other lists for one the later counts
 with_one : (f : ℕ → List ℕ) (i j : ℕ) (xs ys : List ℕ) → with_at (with_at f i xs) i ys j ≡ with_at f i ys j
-with_one f i j xs ys = elim (same_or j i) [
-  | inl q ↦ with_here (with_at f i xs) i j ys q ∙ sym (with_here f i j ys q)
-  | inr q ↦ with_else (with_at f i xs) i j ys q ∙ (with_else f i j xs q ∙ sym (with_else f i j ys q))
-]
+with_one f i j xs ys = grind (arith, nat_tests, same_or j i, with_here (with_at f i xs) i j ys, with_here f i j ys, with_else (with_at f i xs) i j ys, with_else f i j xs, with_else f i j ys)
 
 with_twice : (f : ℕ → List ℕ) (i : ℕ) (xs ys : List ℕ) → with_at (with_at f i xs) i ys ≡ with_at f i ys
 with_twice f i xs ys = λ t j. with_one f i j xs ys t
@@ -364,6 +348,4 @@ drawn_other s0 s s1 s2 s3 start i from at b next k ni li ls q e nz has d d' ws r
 pub own_first : (s0 s s1 s3 : View) (start i at b : ℕ) → Looking s0 s start i → start < 8 → i ≡ 0 →
     at ≡ 8 + (start + i) % 8 → Loaded s s1 at b → Kept s1 s3 → (image : List ℕ) → Sees s3 image →
     mem s0 image (8 + start) ≡ b
-own_first s0 s s1 s3 start i at b k ls z q d k' image seen =
-    let e : at ≡ 8 + start = omega arith in
-    subst (λ (x : ℕ). mem s0 image x ≡ b) e (at_start s0 s s1 at b k.writes d image (k'.seen image seen))
+own_first s0 s s1 s3 start i at b k ls z q d k' image seen = grind (arith, nat_tests, at_start s0 s s1, k'.seen image seen)

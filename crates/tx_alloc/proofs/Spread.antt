@@ -1,5 +1,5 @@
 -- The words of a heap whose lists have a piece of it each are a pool of which every block is free.
-use Rattle.std.proofs.Common.{◌≡◌, ◌≢◌, inl, inr, ℕ, ◌+◌, ◌*◌, ◌<◌, ◌≤◌, List, nat_eq, nat_lt, true, false, length}
+use Rattle.std.proofs.Common.{◌≡◌, ℕ, ◌+◌, ◌*◌, ◌<◌, ◌≤◌, List, nat_lt, true, length}
 use Rattle.std.proofs.Common.{slice_index, refl, arith, zero, suc}
 use Rattle.std.proofs.lemmas.Bool.Decides.{nat_tests}
 use Rattle.std.proofs.lemmas.Bool.{cases_lt, lt-ltb, le-ltb}
@@ -16,9 +16,7 @@ words_of xs a = slice_index xs a
 piece_free : (xs : List ℕ) (n i k b : ℕ) → IsSpreadHeap xs n → i < 8 → spread_start n i ≤ b →
     b + k ≡ spread_start n (i + 1) → Free (words_of xs) (length xs) (place_of_block (spread_start n (i + 1)) b)
     (blocks_from k b)
-piece_free xs n i zero b h l ge e =
-    let t : nat_lt b (spread_start n (i + 1)) ≡ false = le-ltb b (spread_start n (i + 1)) (omega arith) in
-    rw t refl
+piece_free xs n i zero b h l ge e = grind (arith, nat_tests, le-ltb b (spread_start n (i + 1)))
 piece_free xs n i (suc k) b h l ge e =
     let below : b < spread_start n (i + 1) = omega arith in
     let t : nat_lt b (spread_start n (i + 1)) ≡ true = lt-ltb b (spread_start n (i + 1)) below in
@@ -31,31 +29,16 @@ piece_free xs n i (suc k) b h l ge e =
 -- a block before the piece or behind it is not in it
 outside : (k s b : ℕ) → (b < s) → held (16 + 8 * b) (blocks_from k s) ≡ 0
 outside zero s b l = refl
-outside (suc k) s b l =
-    let ne : 16 + 8 * s ≢ 16 + 8 * b = omega arith in
-    let z : nat_eq (16 + 8 * s) (16 + 8 * b) ≡ false = grind (arith, nat_tests) in
-    rw z (omega (arith, outside k (s + 1) b (omega arith)))
+outside (suc k) s b l = grind (arith, nat_tests, outside k (s + 1) b)
 
 behind : (k s b : ℕ) → (s + k ≤ b) → held (16 + 8 * b) (blocks_from k s) ≡ 0
 behind zero s b l = refl
-behind (suc k) s b l =
-    let ne : 16 + 8 * s ≢ 16 + 8 * b = omega arith in
-    let z : nat_eq (16 + 8 * s) (16 + 8 * b) ≡ false = grind (arith, nat_tests) in
-    rw z (omega (arith, behind k (s + 1) b (omega arith)))
+behind (suc k) s b l = grind (arith, nat_tests, behind k (s + 1) b)
 
 -- one of the piece is there once
 inside : (k s b : ℕ) → s ≤ b → b < s + k → held (16 + 8 * b) (blocks_from k s) ≡ 1
 inside zero s b l l' = absurd (omega arith)
-inside (suc k) s b l l' =
-    elim (same_or s b) [
-      | inl same ↦ (
-          let z : nat_eq (16 + 8 * s) (16 + 8 * b) ≡ true = grind (arith, nat_tests) in
-          rw z (omega (arith, outside k (s + 1) b (omega arith))))
-      | inr apart ↦ (
-          let ne : 16 + 8 * s ≢ 16 + 8 * b = omega arith in
-          let z : nat_eq (16 + 8 * s) (16 + 8 * b) ≡ false = grind (arith, nat_tests) in
-          rw z (omega (arith, inside k (s + 1) b (omega arith) (omega arith))))
-    ]
+inside (suc k) s b l l' = grind (arith, nat_tests, same_or s b, outside k (s + 1) b, inside k (s + 1) b)
 
 -- the list of a block
 record Owner (n b k : ℕ) : Type 0 where
@@ -66,28 +49,14 @@ record Owner (n b k : ℕ) : Type 0 where
 
 owner : (n b k : ℕ) → b < spread_start n k → Owner n b k
 owner n b zero l = absurd (omega arith)
-owner n b (suc k) l =
-    elim (cases_lt b (spread_start n k)) [
-      | inl below ↦ (let o = owner n b k below in record
-          { list = o.list; below = omega (arith, o.below); from = o.from; before = o.before })
-      | inr here ↦ record { list = k; below = omega arith; from = here; before = omega (arith, l, start_next n k) }
-    ]
+owner n b (suc k) l = grind (arith, nat_tests, cases_lt b (spread_start n k), owner n b k, start_next n k)
 
 length_piece : (k b : ℕ) → length (blocks_from k b) ≡ k
 length_piece zero b = refl
 length_piece (suc k) b = omega (arith, length_piece k (b + 1))
 
 once_there : (n b : ℕ) → b < n → sum_below 8 (λ i. held (16 + 8 * b) (spread_lists n i)) ≡ 1
-once_there n b l =
-    let o = owner n b 8 (omega (arith, start_all n)) in
-    sum_one 8 o.list (λ i. held (16 + 8 * b) (spread_lists n i)) o.below
-    (inside (share_of_list n o.list) (spread_start n o.list) b o.from (omega (arith, o.before, start_next n o.list)))
-    (λ i less ne. elim (cases_lt i o.list) [
-      | inl before ↦ behind (share_of_list n i) (spread_start n i) b
-          (omega (arith, o.from, start_next n i, start_grows n (i + 1) o.list (omega arith)))
-      | inr after ↦ outside (share_of_list n i) (spread_start n i) b
-          (omega (arith, o.before, start_grows n (o.list + 1) i (omega arith)))
-    ])
+once_there n b l = grind (arith, nat_tests, owner n b 8, start_all n, sum_one 8, inside, start_next n, cases_lt, behind, start_grows n, outside)
 
 pub spread_pool : (xs : List ℕ) (n : ℕ) → IsSpreadHeap xs n →
     IsPool (λ (a : ℕ). slice_index xs a) (length xs) (spread_lists n) (λ (x : ℕ). 0) 0

@@ -1,4 +1,5 @@
 -- The words of a heap whose lists have a piece of it each, as far as they are written.
+use Rattle.std.proofs.lemmas.Bool.Decides.{nat_tests}
 use Rattle.std.proofs.Common.{◌≡◌, ◌≢◌, inl, inr, ℕ, ◌+◌, ◌*◌, ◌<◌, ◌≤◌, List, ◌++◌, take, drop, length, get_or, set}
 use Rattle.std.proofs.Common.{length-set, get_or-set_same, get_or-set_other, add-one, refl, sym, ap, ◌∙◌, subst, arith}
 use Rattle.std.proofs.Common.{zero, suc}
@@ -80,10 +81,7 @@ pub record Spreading (xs : List ℕ) (n i first : ℕ) : Type 0 where
 -- where the next list ends
 pub end_of : (xs : List ℕ) (n i first end : ℕ) → Spreading xs n i first → i < 8 → end ≡ first + share_of_list n i →
     (end ≡ spread_start n (i + 1)) × (first ≤ end) × (end ≤ n)
-end_of xs n i first end h l e =
-    let q = start_next n i in
-    let is : end ≡ spread_start n (i + 1) = omega (arith, q, h.start) in
-    (is, omega arith, omega (arith, is, start_grows n (i + 1) 8 (omega arith), start_all n))
+end_of xs n i first end h l e = grind (arith, nat_tests, start_next n i, start_grows n (i + 1) 8, start_all n)
 
 pub spread_step : (xs ys : List ℕ) (n i first end : ℕ) → Spreading xs n i first → i < 8 →
     end ≡ first + share_of_list n i →

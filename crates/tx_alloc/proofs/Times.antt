@@ -1,6 +1,6 @@
 -- How often rows have a block.
-use Rattle.std.proofs.Common.{◌≡◌, ◌≢◌, inl, inr, ℕ, ◌+◌, ◌<◌, ◌≤◌, [], ◌∷◌, cond, nat_eq, length, true, false, refl}
-use Rattle.std.proofs.Common.{sym, ap, ◌∙◌, arith}
+use Rattle.std.proofs.Common.{◌≡◌, ◌≢◌, ℕ, ◌+◌, ◌<◌, ◌≤◌, [], ◌∷◌, cond, nat_eq, length, true, false, refl}
+use Rattle.std.proofs.Common.{sym, arith}
 use Rattle.std.proofs.lemmas.Bool.Decides.{nat_tests}
 use Rattle.std.proofs.lemmas.Bool.{cases_lt}
 use Rattle.tx_memory.specs.Seen.{same_or}
@@ -21,19 +21,11 @@ put_here k a key b rs here = grind (arith, nat_tests)
 
 pub times_put : (x key b : ℕ) (rs : Rows) → times x (put_row rs key b) ≡ cond (nat_eq b x) 1 0 + times x rs
 times_put x key b [] = refl
-times_put x key b ((k, a) ∷ rs) =
-    elim (cases_lt k key) [
-      | inl below ↦ omega (arith, ap (times x) (put_is k a key b rs below), times_put x key b rs)
-      | inr here ↦ omega (arith, ap (times x) (put_here k a key b rs here))
-    ]
+times_put x key b ((k, a) ∷ rs) = grind (arith, nat_tests, cases_lt k key, put_is k a key b rs, times_put x key b rs, put_here k a key b rs)
 
 pub length_put : (key b : ℕ) (rs : Rows) → length (put_row rs key b) ≡ 1 + length rs
 length_put key b [] = refl
-length_put key b ((k, a) ∷ rs) =
-    elim (cases_lt k key) [
-      | inl below ↦ omega (arith, ap (λ (z : Rows). length z) (put_is k a key b rs below), length_put key b rs)
-      | inr here ↦ omega (arith, ap (λ (z : Rows). length z) (put_here k a key b rs here))
-    ]
+length_put key b ((k, a) ∷ rs) = grind (arith, nat_tests, cases_lt k key, put_is k a key b rs, length_put key b rs, put_here k a key b rs)
 
 -- the block at a key that is there leaves the rows
 pub cut_is : (k a key : ℕ) (rs : Rows) → k ≡ key → (cut_row ((k, a) ∷ rs) key ≡ rs) × (block_at ((k, a) ∷ rs) key ≡ a)
@@ -46,25 +38,8 @@ cut_else k a key rs e = let t : nat_eq k key ≡ false = grind (arith, nat_tests
 pub times_cut : (x key b : ℕ) (rs : Rows) → block_at rs key ≡ b → b ≢ 0 →
     cond (nat_eq b x) 1 0 + times x (cut_row rs key) ≡ times x rs
 times_cut x key b [] e ne = absurd (ne (sym e))
-times_cut x key b ((k, a) ∷ rs) e ne =
-    elim (same_or k key) [
-      | inl q ↦ (let c = cut_is k a key rs q in let same : a ≡ b = sym c.1 ∙ e in
-          omega (arith, ap (times x) c.0, ap (λ (z : ℕ). cond {A = ℕ} (nat_eq z x) 1 0) same))
-      | inr q ↦ (let c = cut_else k a key rs q in omega (
-        arith,
-        ap (times x) c.0,
-        times_cut x key b rs (sym c.1 ∙ e) ne,
-      ))
-    ]
+times_cut x key b ((k, a) ∷ rs) e ne = grind (arith, nat_tests, same_or k key, cut_is k a key rs, cut_else k a key rs, times_cut x key b rs)
 
 pub length_cut : (key b : ℕ) (rs : Rows) → block_at rs key ≡ b → b ≢ 0 → 1 + length (cut_row rs key) ≡ length rs
 length_cut key b [] e ne = absurd (ne (sym e))
-length_cut key b ((k, a) ∷ rs) e ne =
-    elim (same_or k key) [
-      | inl q ↦ omega (arith, ap (λ (z : Rows). length z) (cut_is k a key rs q).0)
-      | inr q ↦ (let c = cut_else k a key rs q in omega (
-        arith,
-        ap (λ (z : Rows). length z) c.0,
-        length_cut key b rs (sym c.1 ∙ e) ne,
-      ))
-    ]
+length_cut key b ((k, a) ∷ rs) e ne = grind (arith, nat_tests, same_or k key, cut_is k a key rs, cut_else k a key rs, length_cut key b rs)

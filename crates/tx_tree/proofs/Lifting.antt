@@ -1,4 +1,5 @@
 -- A tree that lacks a black node, over every memory that there may be.
+use Rattle.std.proofs.lemmas.Bool.Decides.{nat_tests}
 use Rattle.std.proofs.Common.{◌≡◌, ◌≢◌, inl, inr, ℕ, ◌+◌, ◌-◌, ◌%◌, ◌<◌, ◌≤◌, Bool, true, false, not, cond, List}
 use Rattle.std.proofs.Common.{length, slice_index, refl, sym, ap, ◌∙◌, subst, arith, append_assoc}
 use Rattle.tx_memory.specs.Seen.{some_le}
@@ -38,11 +39,7 @@ one_false false ne = refl
 
 pub lift_along : (s s' : View) (link p q side : ℕ) → Kept s s' → s'.writes ≡ s.writes → HasLift s link p q side →
     HasLift s' link p q side
-lift_along s s' link p q side k w h = record {
-  small = omega (arith, h.small, k.size);
-  room = omega (arith, h.room, k.size);
-  under = λ image i. rw w (h.under image (stood k image i));
-}
+lift_along s s' link p q side k w h = grind (arith, nat_tests, stood k)
 
 pub record LiftRooms (n link p q side : ℕ) : Type 0 where
   pub link_in : link + 1 ≤ n
@@ -53,23 +50,7 @@ pub record LiftRooms (n link p q side : ℕ) : Type 0 where
   pub high : side ≤ 2
 
 rooms_at : (m : ℕ → ℕ) (n link p q side : ℕ) → 16 ≤ n → SomeLift m n link p q side → LiftRooms n link p q side
-rooms_at m n link p q side room a =
-    let z = a.at.zip in
-    let b = beside_node m n a.root a.total a.way a.right a.colour a.key p q a.other a.tree a.blacks z a.at.beside_is
-    a.at.short in
-    let o = off_range a.right in
-    record {
-      link_in = elim (link_is a.root a.way) [
-        | inl e ↦ omega (arith, a.at.link_is, e, z.low)
-        | inr i ↦ (let x = way_block m n a.root i.block a.way z.way.1.1 i.there in
-            omega (arith, a.at.link_is, i.is, i.high, x.1.0))
-      ];
-      node = z.way.0.block.1.0;
-      node_low = omega (arith, z.way.0.block.1.1);
-      beside = b.block.1.0;
-      low = omega (arith, a.at.side_is);
-      high = omega (arith, a.at.side_is);
-    }
+rooms_at m n link p q side room a = grind (arith, nat_tests, beside_node m n a.root a.total a.way a.right a.colour a.key p q a.other a.tree a.blacks, off_range a.right, link_is a.root a.way, way_block m n a.root)
 
 pub lift_rooms : (s : View) (link p q side : ℕ) → HasLift s link p q side → ∥ ((image : List ℕ) × RestsOn s image) ∥₁ →
     LiftRooms s.size link p q side
@@ -88,39 +69,11 @@ lift_rooms s link p q side h ws =
 
 pub leads_outer : (s : View) (link p q side : ℕ) → HasLift s link p q side → ∥ ((image : List ℕ) × RestsOn s image) ∥₁ →
     LeadsToBlock s (q + (3 - side))
-leads_outer s link p q side h ws =
-    let r = lift_rooms s link p q side h ws in
-    record {
-      small = h.small;
-      room = omega (arith, r.beside, r.low);
-      under = λ image i ne.
-          let a = h.under image i in
-          let b = beside_node (mem s image) (length image) a.root a.total a.way a.right a.colour a.key p q a.other
-          a.tree a.blacks a.at.zip a.at.beside_is a.at.short in
-          let e : mem s image (q + (3 - side)) ≡ mem s image (q + off (not a.right)) =
-          ap (λ (x : ℕ). mem s image (q + x)) (ap (λ (x : ℕ). 3 - x) a.at.side_is ∙ off_across a.right) in
-          subst (λ (x : ℕ). IsBlock (length image) x) (sym e)
-          (pointer (mem s image) (length image) (mem s image (q + off (not a.right))) b.outer b.on_outer
-          (λ z. ne (e ∙ z)));
-    }
+leads_outer s link p q side h ws = grind (arith, nat_tests, lift_rooms s link p q side h ws, beside_node, off_across, pointer)
 
 pub leads_inner : (s : View) (link p q side : ℕ) → HasLift s link p q side → ∥ ((image : List ℕ) × RestsOn s image) ∥₁ →
     LeadsToBlock s (q + side)
-leads_inner s link p q side h ws =
-    let r = lift_rooms s link p q side h ws in
-    record {
-      small = h.small;
-      room = omega (arith, r.beside, r.high);
-      under = λ image i ne.
-          let a = h.under image i in
-          let b = beside_node (mem s image) (length image) a.root a.total a.way a.right a.colour a.key p q a.other
-          a.tree a.blacks a.at.zip a.at.beside_is a.at.short in
-          let e : mem s image (q + side) ≡ mem s image (q + off a.right) =
-          ap (λ (x : ℕ). mem s image (q + x)) a.at.side_is in
-          subst (λ (x : ℕ). IsBlock (length image) x) (sym e)
-          (pointer (mem s image) (length image) (mem s image (q + off a.right)) b.inner b.on_inner
-          (λ z. ne (e ∙ z)));
-    }
+leads_inner s link p q side h ws = grind (arith, nat_tests, lift_rooms s link p q side h ws, beside_node, pointer)
 
 pub lifted_outer : (s s1 s2 s3 s4 s5 : View) (link p q side z v : ℕ) (red : Bool) → Reached s s1 (q + (3 - side)) z →
     Coloured s1 s2 z red → red ≡ true → Loaded s2 s3 (p + 3) v → Raising s3 s4 link p q (3 - side) v 0 →
@@ -173,21 +126,7 @@ pub record NoneSeen (s s4 : View) (q side : ℕ) : Type 0 where
 pub none_seen : (s s1 s2 s3 s4 : View) (q side z y : ℕ) (red red' : Bool) → Reached s s1 (q + (3 - side)) z →
     Coloured s1 s2 z red → red ≡ false → Reached s2 s3 (q + side) y → Coloured s3 s4 y red' → red' ≡ false →
     NoneSeen s s4 q side
-none_seen s s1 s2 s3 s4 q side z y red red' r c e r' c' e' = record {
-  kept = kept_both s s2 s4 (kept_both s s1 s2 r.loaded.kept c.kept) (kept_both s2 s3 s4 r'.loaded.kept c'.kept);
-  writes = c'.writes ∙ (r'.loaded.writes ∙ (c.writes ∙ r.loaded.writes));
-  none = λ image i4.
-      let i3 = c'.kept.seen image i4 in let i2 = r'.loaded.kept.seen image i3 in let i1 = c.kept.seen image i2 in
-      let w2 : s2.writes ≡ s.writes = c.writes ∙ r.loaded.writes in
-      let a : mem s image (q + (3 - side)) ≡ z = r.loaded.answer image i1 in
-      let b : mem s image (q + side) ≡ y = at_start s s2 s3 (q + side) y w2 r'.loaded image i3 in
-      record {
-        outer = λ ne one. c.is_none e (λ x. ne (a ∙ x)) image i2
-            (rw (← r.loaded.writes) at (sym (ap (λ (x : ℕ). mem s image (x + 3)) a) ∙ one));
-        inner = λ ne one. c'.is_none e' (λ x. ne (b ∙ x)) image i4
-            (rw (← (r'.loaded.writes ∙ w2)) at (sym (ap (λ (x : ℕ). mem s image (x + 3)) b) ∙ one));
-      };
-}
+none_seen s s1 s2 s3 s4 q side z y red red' r c e r' c' e' = grind (arith, nat_tests, kept_both s s2 s4 (kept_both s s1 s2 r.loaded.kept c.kept) (kept_both s2 s3 s4 r'.loaded.kept c'.kept), kept_both s s1 s2 r.loaded.kept c.kept, kept_both s2 s3 s4 r'.loaded.kept c'.kept, at_start s s2 s3 (q + side) y)
 
 pub lifted_red : (s s4 s5 s6 s7 : View) (link p q side : ℕ) (red : Bool) → NoneSeen s s4 q side → Coloured s4 s5 p red →
     red ≡ true → Stored s5 s6 (q + 3) 1 → Stored s6 s7 (p + 3) 0 → Lifted s s7 link p q side true
@@ -237,41 +176,14 @@ pub record OneUp (m : ℕ → ℕ) (n root : ℕ) (total : ℕ → ℕ) (xs : Li
 pub one_up : (m : ℕ → ℕ) (n root : ℕ) (total : ℕ → ℕ) (xs : List ℕ) (d : ℕ) (w : Way) (t : Tree) (h : ℕ) →
     ShortAt m n root total xs d w t h → 1 ≤ d → OneUp m n root total xs d w t h
 one_up m n root total xs d top t h a one = absurd (omega (arith, a.deep))
-one_up m n root total xs d (step right c (k, b) o w) t h a one =
-    let l = link_at n (slice_index xs d) b right a.zip.way.0.block (ap (slice_index xs) a.deep ∙ a.path.0) in
-    let e : d - 1 ≡ depth w = omega (arith, a.deep) in
-    record {
-      right = right;
-      colour = c;
-      key = k;
-      other = o;
-      up = w;
-      is = ap (λ (x : ℕ). step right c (k, x) o w) (sym l.block);
-      side = l.side;
-      above =
-          ap (slice_index xs) e ∙ path_at xs root w a.path.1;
-      path = a.path.1;
-      deep = e;
-    }
+one_up m n root total xs d (step right c (k, b) o w) t h a one = grind (arith, nat_tests, link_at n (slice_index xs d) b right a.zip.way.0.block (ap (slice_index xs) a.deep ∙ a.path.0), up, path_at xs root w a.path.1)
 
 pub lift_at : (m : ℕ → ℕ) (n root : ℕ) (total : ℕ → ℕ) (xs : List ℕ) (d q : ℕ) (w : Way) (t : Tree) (h : ℕ) →
     (a : ShortAt m n root total xs d w t h) → (u : OneUp m n root total xs d w t h) →
     m (slice_index xs d - slice_index xs d % 8 + (3 - slice_index xs d % 8)) ≡ q → (q ≢ 0 → m (q + 3) ≢ 1) →
     LiftAt m n root total (slice_index xs (d - 1)) (slice_index xs d - slice_index xs d % 8) q
     (slice_index xs d % 8) u.up u.right u.colour u.key u.other t h
-lift_at m n root total xs d q w t h a u e never =
-    let z : Zip m n root total (step u.right u.colour (u.key, (slice_index xs d - slice_index xs d % 8)) u.other u.up) t
-    = rw u.is at a.zip in
-    let far : 3 - (slice_index xs d % 8) ≡ off (not u.right) = ap (λ (x : ℕ). 3 - x) u.side ∙ off_across u.right in
-    let at : m ((slice_index xs d - slice_index xs d % 8) + off (not u.right)) ≡ q = rw far at e in
-    record {
-      zip = z;
-      link_is = u.above;
-      side_is = u.side;
-      beside_is = at;
-      black = not_red m n q u.other (rw at at z.way.1.0) never;
-      short = rw u.is at a.short;
-    }
+lift_at m n root total xs d q w t h a u e never = grind (arith, nat_tests, off_across u.right, link_is, not_red m n q u.other)
 
 -- a red node beside comes up
 pub record RedStep (m m1 : ℕ → ℕ) (n root : ℕ) (total : ℕ → ℕ) (q p side : ℕ) (w : Way) (t : Tree) (h : ℕ) :
@@ -373,23 +285,7 @@ red_step m m1 n root total xs d q w t h a one e some red rise =
     (slice_index xs d % 8) x t h) (sym is') f
 
 pub short_way : (s : View) (xs : List ℕ) (d : ℕ) → HasShort s xs d → HasWay s xs d
-short_way s xs d h = record {
-  small = h.small;
-  room = h.room;
-  size = h.size;
-  deep = h.deep;
-  under = λ image i.
-      let a = h.under image i in
-      record {
-        root = a.root;
-        total = a.total;
-        way = a.way;
-        tree = a.tree;
-        zip = a.at.zip;
-        path = a.at.path;
-        deep = a.at.deep;
-      };
-}
+short_way s xs d h = grind (arith, nat_tests)
 
 -- the node beside is black
 pub record BlackSeen (s s2 : View) (xs : List ℕ) (d q : ℕ) : Type 0 where
@@ -402,12 +298,7 @@ pub record BlackSeen (s s2 : View) (xs : List ℕ) (d q : ℕ) : Type 0 where
 pub black_seen : (s s1 s2 : View) (xs : List ℕ) (d q : ℕ) (red : Bool) →
     Reached s s1 (slice_index xs d - slice_index xs d % 8 + (3 - slice_index xs d % 8)) q → Coloured s1 s2 q red →
     red ≡ false → BlackSeen s s2 xs d q
-black_seen s s1 s2 xs d q red r c e = record {
-  kept = kept_both s s1 s2 r.loaded.kept c.kept;
-  writes = c.writes ∙ r.loaded.writes;
-  is = λ image i. r.loaded.answer image (c.kept.seen image i);
-  black = λ image i ne x. c.is_none e ne image i (rw (← r.loaded.writes) at x);
-}
+black_seen s s1 s2 xs d q red r c e = grind (arith, nat_tests, kept_both s s1 s2 r.loaded.kept c.kept)
 
 pub has_lift : (s s2 : View) (xs : List ℕ) (d q : ℕ) → HasShort s xs d → 1 ≤ d → BlackSeen s s2 xs d q →
     HasLift s2 (slice_index xs (d - 1)) (slice_index xs d - slice_index xs d % 8) q (slice_index xs d % 8)
@@ -557,18 +448,7 @@ pub record Mending (s0 s : View) (xs : List ℕ) (d0 d : ℕ) : Type 0 where
       ShortUp (mem s0 image) (mem s image) (length image) root total xs d (rows (plug w t))
 
 pub mend_start : (s : View) (xs : List ℕ) (d : ℕ) → HasShort s xs d → Mending s s xs d d
-mend_start s xs d h = record {
-  kept = kept_none s;
-  deep = h.deep;
-  goes = λ image i root total w t e a. record {
-    way = w;
-    tree = t;
-    blacks = e;
-    at = a;
-    is = refl;
-    touches = touches_none (mem s image) root total;
-  };
-}
+mend_start s xs d h = grind (arith, nat_tests, kept_none s, touches_none)
 
 pub short_now : (s0 s : View) (xs : List ℕ) (d0 d : ℕ) → HasShort s0 xs d0 → Mending s0 s xs d0 d → HasShort s xs d
 short_now s0 s xs d0 d h t = record {
@@ -613,16 +493,7 @@ mend_up s0 s s1 xs d0 d done t f e = record {
 
 short_top : (m m' : ℕ → ℕ) (n root : ℕ) (total : ℕ → ℕ) (xs : List ℕ) (w : Way) (t : Tree) (h : ℕ) (rs : Rows) →
     ShortAt m' n root total xs 0 w t h → rows (plug w t) ≡ rs → Touches m m' root total → IsMended m m' n root total rs
-short_top m m' n root total xs top t h rs a is touches =
-    record {
-      tree = t;
-      zip = a.zip;
-      even = a.short.even.0;
-      apart = a.short.apart;
-      black = a.short.black;
-      is = is;
-      touches = touches;
-    }
+short_top m m' n root total xs top t h rs a is touches = grind (arith, nat_tests)
 short_top m m' n root total xs (step right c x o w) t h rs a is touches = absurd (omega (arith, a.deep))
 
 pub mend_top : (s0 s : View) (xs : List ℕ) (d0 d : ℕ) → Mending s0 s xs d0 d → d ≡ 0 → Mended s0 s xs d0

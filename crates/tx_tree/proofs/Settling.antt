@@ -1,4 +1,5 @@
 -- An insertion over every memory that there may be.
+use Rattle.std.proofs.lemmas.Bool.Decides.{nat_tests}
 use Rattle.std.proofs.Common.{◌≡◌, ◌≢◌, ℕ, ◌+◌, ◌-◌, ◌%◌, ◌<◌, ◌≤◌, Bool, true, false, List, length, slice_index, refl}
 use Rattle.std.proofs.Common.{sym, ap, ◌∙◌, arith}
 use Rattle.tx_memory.specs.Seen.{some_le}
@@ -21,20 +22,7 @@ pub record Settling (s0 s : View) (xs : List ℕ) (d0 b0 d b : ℕ) : Type 0 whe
       RaisedNow (mem s0 image) (mem s image) (length image) root total xs d b (rows (plug w (node true l (k, b0) o)))
 
 pub settle_start : (s : View) (xs : List ℕ) (d b : ℕ) → HasRaised s xs d b → Settling s s xs d b d b
-settle_start s xs d b h = record {
-  kept = kept_none s;
-  deep = h.deep;
-  goes = λ image i root total w l k o e r. record {
-    way = w;
-    left = l;
-    key = k;
-    right = o;
-    blacks = e;
-    at = r;
-    is = refl;
-    touches = touches_none (mem s image) root total;
-  };
-}
+settle_start s xs d b h = grind (arith, nat_tests, kept_none s, touches_none)
 
 pub raised_now : (s0 s : View) (xs : List ℕ) (d0 b0 d b : ℕ) → HasRaised s0 xs d0 b0 → Settling s0 s xs d0 b0 d b →
     HasRaised s xs d b
@@ -60,40 +48,14 @@ raised_now s0 s xs d0 b0 d b h t = record {
 
 pub raised_along : (s s' : View) (xs : List ℕ) (d b : ℕ) → Kept s s' → s'.writes ≡ s.writes → HasRaised s xs d b →
     HasRaised s' xs d b
-raised_along s s' xs d b k w h = record {
-  small = omega (arith, h.small, k.size);
-  room = omega (arith, h.room, k.size);
-  size = h.size;
-  deep = h.deep;
-  under = λ image i. rw w (h.under image (stood k image i));
-}
+raised_along s s' xs d b k w h = grind (arith, nat_tests, stood k)
 
 pub raised_way : (s : View) (xs : List ℕ) (d b : ℕ) → HasRaised s xs d b → HasWay s xs d
-raised_way s xs d b h = record {
-  small = h.small;
-  room = h.room;
-  size = h.size;
-  deep = h.deep;
-  under = λ image i.
-      let a = h.under image i in
-      record {
-        root = a.root;
-        total = a.total;
-        way = a.way;
-        tree = node true a.left (a.key, b) a.right;
-        zip = a.at.zip;
-        path = a.at.path;
-        deep = a.at.deep;
-      };
-}
+raised_way s xs d b h = grind (arith, nat_tests)
 
 pub raised_room : (s : View) (xs : List ℕ) (d b : ℕ) → HasRaised s xs d b → ∥ ((image : List ℕ) × RestsOn s image) ∥₁ →
     b + 8 ≤ s.size
-raised_room s xs d b h ws = some_le (b + 8) s.size ws (λ w. omega (
-  arith,
-  (h.under w.0 w.1).at.zip.tree.0.block.1.0,
-  w.1.size,
-))
+raised_room s xs d b h ws = grind (arith, nat_tests, some_le (b + 8) s.size ws)
 
 -- the node above is black
 pub settled_black : (s0 s s1 : View) (xs : List ℕ) (d0 b0 d b : ℕ) (red : Bool) → HasRaised s0 xs d0 b0 →
@@ -168,14 +130,7 @@ pub reds : (s s1 s2 s3 : View) (xs : List ℕ) (d u : ℕ) (red red' : Bool) →
     Coloured s s1 (slice_index xs d - slice_index xs d % 8) red → red ≡ true →
     Reached s1 s2 (slice_index xs (d - 1) - slice_index xs (d - 1) % 8 + (3 - slice_index xs (d - 1) % 8)) u →
     Coloured s2 s3 u red' → red' ≡ true → Reds s s3 xs d u
-reds s s1 s2 s3 xs d u red red' c e r c' e' = record {
-  kept = kept_both s s2 s3 (kept_both s s1 s2 c.kept r.loaded.kept) c'.kept;
-  writes = c'.writes ∙ (r.loaded.writes ∙ c.writes);
-  some = c'.there e';
-  parent = λ image i. let i1 = r.loaded.kept.seen image (c'.kept.seen image i) in c.is_one e image i1;
-  uncle_at = λ image i. at_start s s1 s2 _ u c.writes r.loaded image (c'.kept.seen image i);
-  uncle = λ image i. rw (r.loaded.writes ∙ c.writes) at (c'.is_one e' image i);
-}
+reds s s1 s2 s3 xs d u red red' c e r c' e' = grind (arith, nat_tests, kept_both s s2 s3 (kept_both s s1 s2 c.kept r.loaded.kept) c'.kept, kept_both s s1 s2 c.kept r.loaded.kept, c'.there e', c.is_one e, at_start s s1 s2, c'.is_one e')
 
 pub settle_step : (s0 s s3 s4 s5 s6 : View) (xs : List ℕ) (d0 b0 d b u : ℕ) → Settling s0 s xs d0 b0 d b → 2 ≤ d →
     Reds s s3 xs d u → Stored s3 s4 (slice_index xs d - slice_index xs d % 8 + 3) 0 → Stored s4 s5 (u + 3) 0 →
@@ -210,17 +165,7 @@ pub needs_turn : (s s1 s2 s3 : View) (xs : List ℕ) (d u : ℕ) (red red' : Boo
     Coloured s s1 (slice_index xs d - slice_index xs d % 8) red → red ≡ true →
     Reached s1 s2 (slice_index xs (d - 1) - slice_index xs (d - 1) % 8 + (3 - slice_index xs (d - 1) % 8)) u →
     Coloured s2 s3 u red' → red' ≡ false → NeedsTurn s3 xs d
-needs_turn s s1 s2 s3 xs d u red red' c e r c' e' = record {
-  under = λ image i.
-      let i2 = c'.kept.seen image i in let i1 = r.loaded.kept.seen image i2 in
-      let at : mem s3 image (slice_index xs (d - 1) - slice_index xs (d - 1) % 8 + (3 - slice_index xs (d - 1) % 8)) ≡ u
-      = rw (c'.writes ∙ r.loaded.writes) (r.loaded.answer image i2) in
-      record {
-        parent = rw (c'.writes ∙ (r.loaded.writes ∙ c.writes)) (c.is_one e image i1);
-        uncle = λ ne one. c'.is_none e' (λ z. ne (at ∙ z)) image i
-            (rw c'.writes at (sym (ap (λ (x : ℕ). mem s3 image (x + 3)) at) ∙ one));
-      };
-}
+needs_turn s s1 s2 s3 xs d u red red' c e r c' e' = grind (arith, nat_tests, c.is_one e)
 
 pub turned_same : (s s1 : View) (xs : List ℕ) (d b : ℕ) → NeedsTurn s xs d → 2 ≤ d →
     slice_index xs d % 8 ≡ slice_index xs (d - 1) % 8 → Raising s s1 (slice_index xs (d - 2))

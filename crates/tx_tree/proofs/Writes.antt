@@ -1,4 +1,5 @@
 -- What single writes make of a way and the tree at its end.
+use Rattle.std.proofs.lemmas.Bool.Decides.{nat_tests}
 use Rattle.std.proofs.Common.{◌≡◌, ◌≢◌, inl, inr, ℕ, ◌+◌, ◌-◌, ◌<◌, ◌≤◌, Bool, true, false, not, cond, [], ◌∷◌, refl}
 use Rattle.std.proofs.Common.{sym, ap, ◌∙◌, subst, arith, add-zero}
 use Rattle.tx_memory.specs.View.{IsWrite}
@@ -19,32 +20,19 @@ touches_both m m' m'' root total t t' = record { others = λ x ne out. t'.others
 
 pub touches_more : (m m' : ℕ → ℕ) (root : ℕ) (total total' : ℕ → ℕ) → ((x : ℕ) → total x ≤ total' x) →
     Touches m m' root total → Touches m m' root total'
-touches_more m m' root total total' more t = record {
-  others = λ x ne out. t.others x ne (λ a i. out a
-      (omega (arith, more a)));
-}
+touches_more m m' root total total' more t = grind (arith, nat_tests)
 
 -- a write of a linking word
 pub touch_block : (m m' : ℕ → ℕ) (root : ℕ) (total : ℕ → ℕ) (b j v : ℕ) → IsWrite m m' (b + j) v → 0 < total b → 1 ≤ j →
     j ≤ 3 → Touches m m' root total
-touch_block m m' root total b j v w i l g = record {
-  others = λ x ne out. w.others x (λ e. elim (out b i) [
-    | inl low ↦ absurd (omega arith)
-    | inr high ↦
-        absurd (omega arith)
-  ]);
-}
+touch_block m m' root total b j v w i l g = grind (arith, nat_tests)
 
 pub touch_root : (m m' : ℕ → ℕ) (root : ℕ) (total : ℕ → ℕ) (v : ℕ) → IsWrite m m' root v → Touches m m' root total
 touch_root m m' root total v w = record { others = λ x ne out. w.others x ne }
 
 pub touch_link : (m m' : ℕ → ℕ) (root : ℕ) (total : ℕ → ℕ) (w : Way) (v : ℕ) → IsWrite m m' (link_of root w) v →
     ((x : ℕ) → way_has x w ≤ total x) → Touches m m' root total
-touch_link m m' root total w v write all = elim (link_is root w) [
-  | inl e ↦ touch_root m m' root total v (subst (λ (x : ℕ). IsWrite m m' x v) e write)
-  | inr i ↦ touch_block m m' root total i.block i.place v (subst (λ (x : ℕ). IsWrite m m' x v) i.is write)
-      (omega (arith, i.there, all i.block)) i.low (omega (arith, i.high))
-]
+touch_link m m' root total w v write all = grind (arith, nat_tests, link_is root w, touch_root m m' root total v, touch_block m m' root total)
 
 -- facts of a node at the end of a way
 pub record AtNode (m : ℕ → ℕ) (n root : ℕ) (total : ℕ → ℕ) (w : Way) (b : ℕ) : Type 0 where
@@ -56,15 +44,7 @@ pub record AtNode (m : ℕ → ℕ) (n root : ℕ) (total : ℕ → ℕ) (w : Wa
 
 pub at_node : (m : ℕ → ℕ) (n root : ℕ) (total : ℕ → ℕ) (w : Way) (c : Bool) (l : Tree) (k b : ℕ) (t : Tree) →
     Zip m n root total w (node c l (k, b) t) → AtNode m n root total w b
-at_node m n root total w c l k b t z =
-    let o = one_self k b b refl in let co = z.count b in let on = z.once b in
-    record {
-      block = z.tree.0.block;
-      not_above = omega arith;
-      way_once = λ x. omega (arith, z.count x, z.once x);
-      leads = z.tree.0.at;
-      counted = omega arith;
-    }
+at_node m n root total w c l k b t z = grind (arith, nat_tests, one_self k b b, z.count b, z.once b)
 
 pub at_join : (m : ℕ → ℕ) (n root : ℕ) (total : ℕ → ℕ) (w : Way) (right c : Bool) (near : Tree) (k b : ℕ) (far : Tree) →
     Zip m n root total w (join right c near (k, b) far) → AtNode m n root total w b

@@ -45,25 +45,11 @@ hangs_frame m m' n p (node c l (k, a) t) same (i, (hl, ht)) =
 
 pub has_block : (m : ℕ → ℕ) (n p x : ℕ) (t : Tree) → Hangs m n p t → 0 < has x t → IsBlock n x
 has_block m n p x leaf h i = absurd (omega arith)
-has_block m n p x (node c l (k, a) t) (r, (hl, ht)) i =
-    elim (cases_lt 0 (has x l)) [
-      | inl left ↦ has_block m n (m (a + 1)) x l hl left
-      | inr none ↦ elim (cases_lt 0 (has x t)) [
-        | inl right ↦ has_block m n (m (a + 2)) x t ht right
-        | inr none' ↦ (let e : a ≡ x = sym (self_one k a x (omega arith)) in subst (λ (z : ℕ). IsBlock n z) e r.block)
-      ]
-    ]
+has_block m n p x (node c l (k, a) t) (r, (hl, ht)) i = grind (arith, nat_tests, cases_lt 0 (has x l), has_block m n (m (a + 1)) x l hl, cases_lt 0 (has x t), has_block m n (m (a + 2)) x t ht, self_one k a x)
 
 pub way_block : (m : ℕ → ℕ) (n root x : ℕ) (w : Way) → HangsWay m n root w → 0 < way_has x w → IsBlock n x
 way_block m n root x top h i = absurd (omega arith)
-way_block m n root x (step right c (k, a) o w) (r, (ho, hw)) i =
-    elim (cases_lt 0 (has x o)) [
-      | inl beside ↦ has_block m n (m (a + off (not right))) x o ho beside
-      | inr none ↦ elim (cases_lt 0 (way_has x w)) [
-        | inl above ↦ way_block m n root x w hw above
-        | inr none' ↦ (let e : a ≡ x = sym (self_one k a x (omega arith)) in subst (λ (z : ℕ). IsBlock n z) e r.block)
-      ]
-    ]
+way_block m n root x (step right c (k, a) o w) (r, (ho, hw)) i = grind (arith, nat_tests, cases_lt 0 (has x o), has_block m n (m (a + off (not right))) x o ho, cases_lt 0 (way_has x w), way_block m n root x w hw, self_one k a x)
 
 -- the word that leads to the hole is the root, or a linking word of a block of the way
 pub record InBlock (w : Way) (x : ℕ) : Type 0 where
@@ -76,21 +62,11 @@ pub record InBlock (w : Way) (x : ℕ) : Type 0 where
 
 pub link_is : (root : ℕ) (w : Way) → (link_of root w ≡ root) ⊎ InBlock w (link_of root w)
 link_is root top = inl refl
-link_is root (step right c (k, a) o w) = inr (record {
-  block = a;
-  place = off right;
-  there = omega (arith, one_self k a a refl);
-  low = (off_range right).0;
-  high = (off_range right).1;
-  is = refl;
-})
+link_is root (step right c (k, a) o w) = grind (arith, nat_tests, one_self k a a, off_range right)
 
 link_same : (m m' : ℕ → ℕ) (root : ℕ) (w : Way) → m' root ≡ m root →
     ((a k : ℕ) → 0 < way_has a w → k < 4 → m' (a + k) ≡ m (a + k)) → m' (link_of root w) ≡ m (link_of root w)
-link_same m m' root w at same = elim (link_is root w) [
-  | inl e ↦ ap m' e ∙ (at ∙ ap m (sym e))
-  | inr i ↦ ap m' i.is ∙ (same i.block i.place i.there (omega (arith, i.high)) ∙ ap m (sym i.is))
-]
+link_same m m' root w at same = grind (arith, nat_tests, link_is root w)
 
 pub way_same : (m m' : ℕ → ℕ) (n root : ℕ) (w : Way) → m' root ≡ m root →
     ((a k : ℕ) → 0 < way_has a w → k < 4 → m' (a + k) ≡ m (a + k)) → HangsWay m n root w → HangsWay m' n root w
@@ -166,27 +142,11 @@ has_join true c near r far x = omega arith
 -- the hole goes down, or up
 pub down : (m : ℕ → ℕ) (n root : ℕ) (total : ℕ → ℕ) (w : Way) (right c : Bool) (near : Tree) (r : ℕ × ℕ) (far : Tree) →
     Zip m n root total w (join right c near r far) → Zip m n root total (step right c r far w) near
-down m n root total w right c near r far z =
-    let j = joined m n (m (link_of root w)) right c near r far z.tree in
-    record {
-      way = (j.is_node, (j.on_far, z.way));
-      tree = j.on_near;
-      count = λ x. omega (arith, z.count x, has_join right c near r far x);
-      once = z.once;
-      low = z.low;
-    }
+down m n root total w right c near r far z = grind (arith, nat_tests, joined m n (m (link_of root w)) right c near r far z.tree, has_join right c near r far)
 
 pub up : (m : ℕ → ℕ) (n root : ℕ) (total : ℕ → ℕ) (w : Way) (right c : Bool) (near : Tree) (r : ℕ × ℕ) (far : Tree) →
     Zip m n root total (step right c r far w) near → Zip m n root total w (join right c near r far)
-up m n root total w right c near r far z =
-    record {
-      way = z.way.1.1;
-      tree = rejoined m n (m (link_of root w)) right c near r far
-          (record { is_node = z.way.0; on_near = z.tree; on_far = z.way.1.0 });
-      count = λ x. omega (arith, z.count x, has_join right c near r far x);
-      once = z.once;
-      low = z.low;
-    }
+up m n root total w right c near r far z = grind (arith, nat_tests, rejoined m n (m (link_of root w)) right c near r far, has_join right c near r far)
 
 pub up_under : (m : ℕ → ℕ) (n root : ℕ) (total : ℕ → ℕ) (v w : Way) (t : Tree) → Zip m n root total (under v w) t →
     Zip m n root total w (plug v t)
@@ -203,13 +163,7 @@ down_under m n root total (step right c r o v) w t z = down m n root total (unde
 -- the word that leads to the hole is no word of a block that is not in the way
 pub link_away : (m : ℕ → ℕ) (n root : ℕ) (w : Way) (b j : ℕ) → root < 16 → HangsWay m n root w → IsBlock n b →
     way_has b w ≡ 0 → j < 8 → link_of root w ≢ b + j
-link_away m n root w b j low h block none l e = elim (link_is root w) [
-  | inl q ↦ absurd (omega (arith, block.1.1))
-  | inr i ↦ (
-      let ib = way_block m n root i.block w h i.there in
-      let same : i.block ≡ b = omega (arith, i.is, i.high, ib.1.1, block.1.1) in
-      absurd (omega (arith, i.there, none, ap (λ (x : ℕ). way_has x w) same)))
-]
+link_away m n root w b j low h block none l e = grind (arith, nat_tests, link_is root w, way_block m n root)
 
 -- a word of a block of the way
 pub record InWay (w : Way) (x : ℕ) : Type 0 where
@@ -222,17 +176,9 @@ pub record InWay (w : Way) (x : ℕ) : Type 0 where
 -- what is written in a block outside of the way, and at the word that leads to the hole, keeps the way
 pub way_kept : (m m' : ℕ → ℕ) (n root : ℕ) (w : Way) → root < 16 → ((x : ℕ) → way_has x w ≤ 1) → HangsWay m n root w →
     ((x : ℕ) → x ≢ link_of root w → ((x ≡ root) ⊎ InWay w x) → m' x ≡ m x) → HangsWay m' n root w
-way_kept m m' n root w low once h same =
-    way_frame m m' n root w low once (λ e. same root e (inl refl))
-    (λ a k q l e. same (a + k) e (inr (record { block = a; place = k; there = q; high = l; is = refl }))) h
+way_kept m m' n root w low once h same = grind (arith, nat_tests, way_frame m m' n root w low once)
 
 -- such a word, or the root, is no word of a block that is not in the way
 pub way_away : (m : ℕ → ℕ) (n root : ℕ) (w : Way) (b x j : ℕ) → root < 16 → HangsWay m n root w → IsBlock n b →
     way_has b w ≡ 0 → j < 8 → (x ≡ root) ⊎ InWay w x → x ≢ b + j
-way_away m n root w b x j low h block none l s e = elim s [
-  | inl q ↦ absurd (omega (arith, block.1.1))
-  | inr i ↦ (
-      let ib = way_block m n root i.block w h i.there in
-      let same : i.block ≡ b = omega (arith, i.is, i.high, ib.1.1, block.1.1) in
-      absurd (omega (arith, i.there, none, ap (λ (x : ℕ). way_has x w) same)))
-]
+way_away m n root w b x j low h block none l s e = grind (arith, nat_tests, way_block m n root)

@@ -1,8 +1,9 @@
 -- The sums of a small state are far below 2 ^ 64.
+use Rattle.std.proofs.lemmas.Bool.Decides.{nat_tests}
 use Rattle.std.proofs.Common.{◌≡◌, ℕ, ◌+◌, ◌*◌, ◌^◌, ◌≤◌, ◌<◌, arith}
 use Rattle.std.specs.Prelude.{Some, sum_by}
 use Rattle.std.specs.Cmp.{nat_cmp_total}
-use Rattle.std.specs.FinMap.{get, len, values, nat_cmp-IsAntisymmetric}
+use Rattle.std.specs.FinMap.{len, values, nat_cmp-IsAntisymmetric}
 use Rattle.vac_model.specs.declared.items.Kind.{Kind}
 use Rattle.vac_model.specs.declared.items.Kind.TheVariants.{Car, Flight, Room}
 use Rattle.vac_model.specs.declared.items.Item.{Item}
@@ -29,16 +30,7 @@ table_size s Room = omega arith
 items_fit : (s : State) (small : IsSmall s) (f : Item → ℕ) → ((i : Item) → i.used + i.free ≡ i.total → f i ≤ i.total) →
     (kind : Kind)
     → sum_by f (values (table_of s kind)) < 2 ^ 60
-items_fit s small f below kind =
-    let each : (k : ℕ) (x : Item) → get (table_of s kind) k ≡ Some x → f x ≤ 1000000000 =
-    λ k x h. let r = small.balanced.items kind k x h in omega (arith, below x r.counts, r.few_units) in
-    omega (
-      arith,
-      sum_le nat_cmp_total nat_cmp-IsAntisymmetric f 1000000000 (table_of s kind) each,
-      table_size s kind,
-      small.balanced.room,
-      small.small,
-    )
+items_fit s small f below kind = grind (arith, nat_tests, small.balanced.items kind, sum_le nat_cmp_total nat_cmp-IsAntisymmetric f 1000000000 (table_of s kind), table_size s kind)
 
 -- a customer's units and bill are bounded by the number of bookings
 units_fit : (s : State) (small : IsSmall s) (c : ℕ) (b : Bookings) → bookings_of s c ≡ Some b →
@@ -55,27 +47,7 @@ bill_fits s small c b h =
 
 -- one bill fits
 pub bill_small : (s : State) (c : ℕ) (b : Bookings) → IsSmall s → bookings_of s c ≡ Some b → bill_of b < 2 ^ 64
-bill_small s c b small h =
-    let fewer = sum-remove nat_cmp_total nat_cmp-IsAntisymmetric len s.customers c b h in
-    omega (arith, bill_fits s small c b h, fewer, small.balanced.room, small.small)
+bill_small s c b small h = grind (arith, nat_tests, sum-remove nat_cmp_total nat_cmp-IsAntisymmetric len s.customers c b h, bill_fits s small c b h)
 
 pub small_sums : (s : State) → IsSmall s → HasSmallSums s
-small_sums s small = record {
-  used = items_fit s small (λ i. i.used) (λ i h. omega arith);
-  free = items_fit s small (λ i. i.free) (λ i h. omega arith);
-  total = items_fit s small (λ i. i.total) (λ i h. omega arith);
-  units = omega (
-    arith,
-    sum_le_by nat_cmp_total nat_cmp-IsAntisymmetric units_booked len 10000 s.customers
-        (units_fit s small),
-    small.balanced.room,
-    small.small,
-  );
-  bills = omega (
-    arith,
-    sum_le_by nat_cmp_total nat_cmp-IsAntisymmetric bill_of len 10000000000 s.customers
-        (bill_fits s small),
-    small.balanced.room,
-    small.small,
-  );
-}
+small_sums s small = grind (arith, nat_tests, items_fit s small, sum_le_by nat_cmp_total nat_cmp-IsAntisymmetric units_booked len 10000 s.customers (units_fit s small), units_fit s small, sum_le_by nat_cmp_total nat_cmp-IsAntisymmetric bill_of len 10000000000 s.customers (bill_fits s small), bill_fits s small)

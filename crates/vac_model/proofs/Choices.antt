@@ -1,4 +1,6 @@
 -- The choices of a trip are among its asks.
+use Rattle.std.proofs.Common.{arith}
+use Rattle.std.proofs.lemmas.Bool.Decides.{nat_tests}
 use Rattle.std.proofs.Common.{◌≡◌, ℕ, true, false, List, [], ◌∷◌}
 use Rattle.std.specs.Prelude.{◌≡◌, Option, Some, None, IfSome, fold, nat_lt, ◌==◌, if◌then◌else◌, true}
 use Rattle.std.specs.List.{list_all}
@@ -25,16 +27,7 @@ ids_of : (s : State) (kind : Kind) (asks : List Place) (best : Option Choice) �
     → HasId (fold (λ best ask. if kind_number ask.0 == kind_number kind then dearer best ask.1
     (price_of s ask.0 ask.1) else best) best asks)
 ids_of s kind [] best h e = h
-ids_of s kind (ask ∷ asks) best h e =
-    let both = both_true (is_id ask.1) (list_all (λ ask. is_id ask.1) asks) e in
-    let first : HasId (if kind_number ask.0 == kind_number kind then dearer best ask.1
-    (price_of s ask.0 ask.1) else best) =
-    elim (kind_number ask.0 == kind_number kind) as (λ b. HasId
-    (if b then dearer best ask.1 (price_of s ask.0 ask.1) else best)) [
-      | true ↦ dearer_id best ask.1 (price_of s ask.0 ask.1) h both.0
-      | false ↦ h
-    ] in
-    ids_of s kind asks _ first both.1
+ids_of s kind (ask ∷ asks) best h e = grind (arith, nat_tests, both_true (is_id ask.1) (list_all (λ ask. is_id ask.1) asks) e, dearer_id best ask.1 (price_of s ask.0 ask.1) h, ids_of s kind asks)
 
 pub choice_id : (s : State) (kind : Kind) (asks : List Place) → list_all (λ ask. is_id ask.1) asks ≡ true →
     HasId (choice_of s kind asks)

@@ -1,5 +1,7 @@
 -- The code of a task and a reply can be read back.
-use Rattle.std.proofs.Common.{◌≡◌, ℕ, List, [], ◌∷◌, ◌++◌, length, refl, ap, sym, ◌∙◌, append_assoc}
+use Rattle.std.proofs.Common.{arith}
+use Rattle.std.proofs.lemmas.Bool.Decides.{nat_tests}
+use Rattle.std.proofs.Common.{◌≡◌, ℕ, List, [], ◌∷◌, ◌++◌, length, refl, ap, ◌∙◌, append_assoc}
 use Rattle.std.specs.Prelude.{Option, Some, None, suc, zero, ◌==◌, if◌then◌else◌}
 use Rattle.std.specs.List.{flat_map}
 use Rattle.vac_model.specs.declared.items.Kind.{Kind}
@@ -103,11 +105,7 @@ read_command l =
     else (command.Audit, tail l)
 
 command_back : ReadsBack command_code read_command
-command_back (command.Add kind id num price) rest =
-    ap (λ (k : Kind). let p = read_option read_number (option_code number_code price ++ rest) in
-    (command.Add k id num p.0, p.1)) (kind_back kind)
-    ∙ ap (λ (p : Read (Option ℕ)). (command.Add kind id num p.0, p.1))
-    (option_back number_code read_number number_back price rest)
+command_back (command.Add kind id num price) rest = grind (arith, nat_tests, option_back, number_back)
 command_back (command.Delete kind id num) rest = ap (λ (k : Kind). (command.Delete k id num, rest)) (kind_back kind)
 command_back (command.DropFlight id) rest = refl
 command_back (command.NewCustomer id) rest = refl
@@ -184,9 +182,7 @@ read_pick l =
     (record { id = head l; price = head (tail l); refused = refused.0 }, refused.1)
 
 pick_back : ReadsBack pick_code read_pick
-pick_back p rest =
-    ap (λ (r : Read (Option Refusal)). let q : Pick = record { id = p.id; price = p.price; refused = r.0 } in
-    (q, r.1)) (option_back why_code read_why why_back p.refused rest)
+pick_back p rest = grind (arith, nat_tests, option_back, why_back)
 
 abbrev read_report : List ℕ → Read Report
 read_report l =
@@ -242,10 +238,4 @@ reply_back (reply.Update u) rest =
 
 -- no two pairs of a task and a reply have one code
 pub code_determines : (t t' : Task) (r r' : Reply) → code t r ≡ code t' r' → (t ≡ t') × (r ≡ r')
-code_determines t t' r r' e =
-    let both : (t, reply_code r) ≡ (t', reply_code r') = sym (task_back t (reply_code r)) ∙ ap read_task e ∙
-    task_back t' (reply_code r') in
-    let codes : reply_code r ≡ reply_code r' = ap (λ (x : Read Task). x.1) both in
-    let replies : (r, []) ≡ (r', []) =
-    sym (reply_back r []) ∙ ap (λ l. read_reply (l ++ [])) codes ∙ reply_back r' [] in
-    (ap (λ (x : Read Task). x.0) both, ap (λ (x : Read Reply). x.0) replies)
+code_determines t t' r r' e = grind (arith, nat_tests, task_back t (reply_code r), task_back t' (reply_code r'), reply_back r [], reply_back r' [])

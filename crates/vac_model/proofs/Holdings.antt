@@ -1,7 +1,7 @@
 -- The units that the customers of a balanced state hold of its items.
-use Rattle.std.proofs.Common.{◌≡◌, ℕ, ◌≤◌, ap, arith}
+use Rattle.std.proofs.lemmas.Bool.Decides.{nat_tests}
+use Rattle.std.proofs.Common.{◌≡◌, ℕ, ◌≤◌, arith}
 use Rattle.std.specs.Prelude.{Some}
-use Rattle.std.specs.Option.{option_map_or}
 use Rattle.std.specs.Cmp.{nat_cmp_total}
 use Rattle.std.specs.FinMap.{get, nat_cmp-IsAntisymmetric}
 use Rattle.vac_model.specs.declared.items.Kind.{Kind}
@@ -32,6 +32,4 @@ pub units-used : (s : State) (customer : ℕ) (bookings : Bookings) (kind : Kind
     IsBalanced s
     → bookings_of s customer ≡ Some bookings → item_of s kind id ≡ Some item → get bookings (kind, id) ≡ Some b →
     b.units ≤ item.used
-units-used s customer bookings kind id item b balanced h there e =
-    let same : units_of bookings (kind, id) ≡ b.units = ap (λ o. option_map_or (λ (x : Booking). x.units) o 0) e in
-    omega (arith, same, units_of-used s customer bookings kind id item balanced h there)
+units-used s customer bookings kind id item b balanced h there e = grind (arith, nat_tests, units_of-used s customer bookings kind id item balanced h there)

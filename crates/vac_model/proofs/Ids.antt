@@ -15,7 +15,4 @@ pub id_high : (n : ℕ) → is_id n ≡ true → n < 2 ^ 32
 id_high n e = let both = both_true (nat_le 1 n) (nat_lt n (2 ^ 32)) e in grind (arith, nat_tests, both.1)
 
 pub id_between : (n : ℕ) → 1 ≤ n → n < 2 ^ 32 → is_id n ≡ true
-id_between n low high =
-    let a : nat_le 1 n ≡ true = grind (arith, nat_tests, low) in
-    let b : nat_lt n (2 ^ 32) ≡ true = grind (arith, nat_tests, high) in
-    rw (a, b) refl
+id_between n low high = grind (arith, nat_tests)

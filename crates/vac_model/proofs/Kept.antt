@@ -5,7 +5,7 @@ use Rattle.std.specs.Prelude.{Option, Some, None, ◌&&◌, ◌==◌, nat_lt, na
 use Rattle.std.specs.Option.{option_map_or}
 use Rattle.std.proofs.lemmas.Bool.Decides.{nat_tests}
 use Rattle.std.proofs.Math.Nat.{mul-le-mul_left}
-use Rattle.std.specs.FinMap.{get, insert, remove, len, entries}
+use Rattle.std.specs.FinMap.{get, insert, remove, len}
 use Rattle.vac_model.specs.declared.items.Kind.{Kind}
 use Rattle.vac_model.specs.declared.items.Kind.TheVariants.{Flight}
 use Rattle.vac_model.specs.declared.items.Item.{Item}
@@ -63,10 +63,7 @@ eq_false a b e = grind (arith, nat_tests)
 
 -- an outcome that leaves the state
 stays : (s : State) (o : Outcome) → IsBalanced s → o.0 ≡ s → Follows s o
-stays s o balanced e = record {
-  balanced = subst IsBalanced (sym e) balanced;
-  capacity = ap (λ (t : State). t.capacity) e;
-}
+stays s o balanced e = grind (arith, nat_tests)
 
 put_capacity : (s : State) (kind : Kind) (id : ℕ) (item : Item) → (with_item s kind id item).capacity ≡ s.capacity
 put_capacity s kind id item = capacity-with_table s kind (insert (table_of s kind) id item)
@@ -75,34 +72,12 @@ add_new_follows : (s : State) (kind : Kind) (id num : ℕ) (price : Option ℕ) 
     is_amount num ≡ true → is_optional_amount price ≡ true
     → item_of s kind id ≡ None → Follows s (add_new s kind id num price)
 add_new_follows s kind id num None balanced ids few cheap none = stays s _ balanced refl
-add_new_follows s kind id num (Some price) balanced ids few cheap none =
-    if_both (Follows s) (num == 0) _ _ (λ zero_units. stays s _ balanced refl) (λ some_units.
-    if_both (Follows s) (is_full s) _ _ (λ full. stays s _ balanced refl) (λ room.
-    let some : 1 ≤ num = omega (arith, eq_false num 0 some_units) in
-    let count = le_true num 1000000 few in
-    let place = le_false s.capacity (size s) room in
-    record {
-      balanced = balanced-new_item s kind id num price balanced ids some (omega (arith, count))
-          (le_true price 1000000 cheap) none (omega (arith, place));
-      capacity = put_capacity s kind id (new_item num price);
-    }))
+add_new_follows s kind id num (Some price) balanced ids few cheap none = grind (arith, nat_tests, if_both, stays s, eq_false num 0, le_true num 1000000 few, le_false s.capacity (size s), balanced-new_item s kind id num price balanced ids, le_true price 1000000 cheap, put_capacity s kind id (new_item num price))
 
 add_more_follows : (s : State) (kind : Kind) (id num : ℕ) (price : Option ℕ) (item : Item) → IsBalanced s →
     is_optional_amount price ≡ true
     → item_of s kind id ≡ Some item → Follows s (add_more s kind id num price item)
-add_more_follows s kind id num price item balanced cheap there =
-    if_both (Follows s) (nat_lt total_limit (item.total + num)) _ _ (λ over. stays s _ balanced refl) (λ under.
-    let f = balanced.items kind id item there in
-    let few = lt_false total_limit (item.total + num) under in
-    record {
-      balanced = balanced-replaced s kind id (added item num price) item balanced there refl
-          (omega (arith, f.some_units)) few (priced price f.price_range cheap) (omega (arith, f.counts));
-      capacity = put_capacity s kind id (added item num price);
-    })
-  where
-    priced : (p : Option ℕ) → item.price ≤ 1000000 → is_optional_amount p ≡ true → unwrap_or p item.price ≤ 1000000
-    priced None h e = h
-    priced (Some x) h e = le_true x 1000000 e
+add_more_follows s kind id num price item balanced cheap there = grind (arith, nat_tests, if_both, stays s, balanced.items kind id item there, lt_false total_limit (item.total + num), balanced-replaced s kind id (added item num price) item balanced there, put_capacity s kind id (added item num price), le_true)
 
 delete_follows : (s : State) (kind : Kind) (id num : ℕ) → IsBalanced s → Follows s (delete s kind id num)
 delete_follows s kind id num balanced =
@@ -122,28 +97,13 @@ delete_follows s kind id num balanced =
     })))
 
 drop_flight_follows : (s : State) (id : ℕ) → IsBalanced s → Follows s (drop_flight s id)
-drop_flight_follows s id balanced =
-    found_both (Follows s) (item_of s Flight id) _ _ (λ none. stays s _ balanced refl) (λ item there.
-    if_both (Follows s) (nat_lt 0 item.used) _ _ (λ used. stays s _ balanced refl) (λ unused. record {
-      balanced = balanced-without_item s Flight id item balanced there (omega (arith, lt_false 0 item.used unused));
-      capacity = refl;
-    }))
+drop_flight_follows s id balanced = grind (arith, nat_tests, found_both, stays s, if_both, balanced-without_item s Flight id, lt_false 0)
 
 new_customer_follows : (s : State) (id : ℕ) → IsBalanced s → is_id id ≡ true → Follows s (new_customer s id)
-new_customer_follows s id balanced ids =
-    found_both (Follows s) (bookings_of s id) _ _ (λ none.
-    if_both (Follows s) (is_full s) _ _ (λ full. stays s _ balanced refl) (λ room. record {
-      balanced = balanced-new_customer s id balanced ids none (omega (arith, le_false s.capacity (size s) room));
-      capacity = refl;
-    }))
-    (λ b there. stays s _ balanced refl)
+new_customer_follows s id balanced ids = grind (arith, nat_tests, found_both, if_both, stays s, balanced-new_customer s id balanced ids, le_false s.capacity (size s))
 
 drop_customer_follows : (s : State) (id : ℕ) → IsBalanced s → Follows s (drop_customer s id)
-drop_customer_follows s id balanced =
-    found_both (Follows s) (bookings_of s id) _ _ (λ none. stays s _ balanced refl) (λ b there. record {
-      balanced = balanced-departed s id b balanced there;
-      capacity = (leaves (without_customer s id) (entries b)).capacity;
-    })
+drop_customer_follows s id balanced = grind (arith, nat_tests, found_both, stays s, balanced-departed s id, leaves (without_customer s id))
 
 units_found : (b : Bookings) (place : Place) (x : Booking) → get b place ≡ Some x → units_of b place ≡ x.units
 units_found b place x e = ap (λ o. option_map_or {T = Booking} (λ y. y.units) o 0) e
@@ -213,14 +173,7 @@ module _ (s : State) (c : ℕ) (kind : Kind) (id num : ℕ) (b : Bookings) (item
 
 reserve_follows : (s : State) (c : ℕ) (kind : Kind) (id num : ℕ) → IsBalanced s → 1 ≤ num → num ≤ 100 →
     Follows s (reserve s c kind id num)
-reserve_follows s c kind id num balanced some few =
-    found_both (Follows s) (bookings_of s c) _ _ (λ none. stays s _ balanced refl) (λ b h.
-    found_both (Follows s) (item_of s kind id) _ _ (λ none. stays s _ balanced refl) (λ item there.
-    if_both (Follows s) (nat_lt item.free num) _ _ (λ short. stays s _ balanced refl) (λ enough.
-    let free = lt_false item.free num enough in
-    found_both (Follows s) (get b (kind, id)) _ _
-    (book_new_follows s c kind id num b item balanced h there free some few)
-    (book_more_follows s c kind id num b item balanced h there free some few))))
+reserve_follows s c kind id num balanced some few = grind (arith, nat_tests, found_both, stays s, if_both, lt_false, book_new_follows s c kind id num, book_more_follows s c kind id num)
 
 cancel_follows : (s : State) (c : ℕ) (kind : Kind) (id : ℕ) → IsBalanced s → Follows s (cancel s c kind id)
 cancel_follows s c kind id balanced =
@@ -252,12 +205,7 @@ cancel_follows s c kind id balanced =
 
 -- every command whose numbers are in their ranges keeps a state balanced
 pub step_follows : (s : State) (c : Command) → IsBalanced s → is_command c ≡ true → Follows s (step s c)
-step_follows s (command.Add kind id num price) balanced e =
-    let outer = both_true (is_id id && is_amount num) (is_optional_amount price) e in
-    let inner = both_true (is_id id) (is_amount num) outer.0 in
-    found_both (Follows s) (item_of s kind id) _ _
-    (λ none. add_new_follows s kind id num price balanced inner.0 inner.1 outer.1 none)
-    (λ item there. add_more_follows s kind id num price item balanced outer.1 there)
+step_follows s (command.Add kind id num price) balanced e = grind (arith, nat_tests, both_true (is_id id && is_amount num) (is_optional_amount price) e, both_true (is_id id) (is_amount num), found_both, add_new_follows s kind id num price balanced, add_more_follows s kind id num price)
 step_follows s (command.Delete kind id num) balanced e = delete_follows s kind id num balanced
 step_follows s (command.DropFlight id) balanced e = drop_flight_follows s id balanced
 step_follows s (command.NewCustomer id) balanced e = new_customer_follows s id balanced e
@@ -265,17 +213,11 @@ step_follows s (command.DropCustomer id) balanced e = drop_customer_follows s id
 step_follows s (command.Free kind id) balanced e = stays s _ balanced refl
 step_follows s (command.Price kind id) balanced e = stays s _ balanced refl
 step_follows s (command.Bill id) balanced e = stays s _ balanced refl
-step_follows s (command.Reserve customer kind id num) balanced e =
-    let outer = both_true (is_id customer && is_id id) (is_unit_count num) e in
-    let inner = both_true (nat_le 1 num) (nat_le num 100) outer.1 in
-    reserve_follows s customer kind id num balanced (le_true 1 num inner.0) (le_true num 100 inner.1)
+step_follows s (command.Reserve customer kind id num) balanced e = grind (arith, nat_tests, both_true (is_id customer && is_id id) (is_unit_count num) e, both_true (nat_le 1 num) (nat_le num 100), reserve_follows s customer kind id num balanced, le_true 1 num, le_true num 100)
 step_follows s (command.Cancel customer kind id) balanced e = cancel_follows s customer kind id balanced
 step_follows s command.Audit balanced e = stays s _ balanced refl
 
 -- the state after a command of a small state is small
 pub small_after : (s t : State) (c : Command) (r : Reply) → IsSmall s → is_command c ≡ true → step s c ≡ (t, r) →
     IsSmall t
-small_after s t c r small e is =
-    let f = step_follows s c small.balanced e in
-    let same : (step s c).0 ≡ t = ap (λ (o : Outcome). o.0) is in
-    subst IsSmall same (record { balanced = f.balanced; small = omega (arith, f.capacity, small.small) })
+small_after s t c r small e is = grind (arith, nat_tests, step_follows s c small.balanced e)

@@ -1,4 +1,5 @@
 -- The refusals that an update notes.
+use Rattle.std.proofs.lemmas.Bool.Decides.{nat_tests}
 use Rattle.std.proofs.Common.{◌≡◌, ℕ, ◌+◌, ◌-◌, ◌<◌, List, [], ◌∷◌, ◌++◌, length, refl, ap, sym, ◌∙◌, arith, slice_set}
 use Rattle.std.proofs.Common.{append_assoc}
 use Rattle.std.specs.Prelude.{Option, None, replicate, suc, zero}
@@ -13,9 +14,7 @@ use Rattle.vac_model.specs.Run.{steps, refusal_of}
 pub steps_push : (s : State) (cs : List Command) (c : Command)
     → steps s (cs ++ c ∷ []) ≡ ((step (steps s cs).0 c).0, (steps s cs).1 ++ refusal_of (step (steps s cs).0 c).1 ∷ [])
 steps_push s [] c = refl
-steps_push s (x ∷ cs) c =
-    let rest = steps_push (step s x).0 cs c in
-    λ i. ((rest i).0, refusal_of (step s x).1 ∷ (rest i).1)
+steps_push s (x ∷ cs) c = grind (arith, nat_tests, steps_push (step s x).0 cs c)
 
 -- each change has its entry
 pub length-steps : (s : State) (cs : List Command) → length (steps s cs).1 ≡ length cs
@@ -51,6 +50,4 @@ noted whys i w e h =
 pub steps_more : (s t t' : State) (cs ds : List Command) (c : Command) (r : Reply) → (steps s cs).0 ≡ t →
     ds ≡ cs ++ c ∷ [] → step t c ≡ (t', r)
     → steps s ds ≡ (t', (steps s cs).1 ++ refusal_of r ∷ [])
-steps_more s t t' cs ds c r before one is =
-    let now : step (steps s cs).0 c ≡ (t', r) = ap (λ u. step u c) before ∙ is in
-    ap (steps s) one ∙ steps_push s cs c ∙ ap (λ (o : State × Reply). (o.0, (steps s cs).1 ++ refusal_of o.1 ∷ [])) now
+steps_more s t t' cs ds c r before one is = grind (arith, nat_tests, steps_push s cs c)

@@ -1,10 +1,11 @@
 -- The order of bookings.
+use Rattle.std.proofs.lemmas.Bool.Decides.{nat_tests}
 use Rattle.std.proofs.Common.{◌≡◌, refl, arith}
 use Rattle.std.specs.declared.cmp.Ordering.{Ordering}
 use Rattle.std.specs.declared.cmp.Ordering.TheVariants.{Less, Equal, Greater}
 use Rattle.std.specs.Ordering.{nat_cmp, ordering_then, on}
 use Rattle.std.specs.Cmp.{IsTotalOrder, nat_cmp_total, then_total}
-use Rattle.std.specs.FinMap.{IsAntisymmetric, nat_cmp-IsAntisymmetric}
+use Rattle.std.specs.FinMap.{IsAntisymmetric}
 use Rattle.vac_model.specs.declared.items.Kind.{Kind}
 use Rattle.vac_model.specs.declared.items.Kind.TheVariants.{Car, Flight, Room}
 use Rattle.vac_model.specs.contracts.items.KindOrd.TheImpl.{ghosts}
@@ -12,11 +13,7 @@ use Rattle.vac_model.specs.State.{Place, place_cmp, kind_number}
 
 -- an order by what a function gives
 pub on_total : {K J : Type 0} (f : K → J) {R : J → J → Ordering} → IsTotalOrder R → IsTotalOrder (on f R)
-on_total f o = record {
-  antisymm = λ x y. o.antisymm (f x) (f y);
-  trans = λ x y z. o.trans (f x) (f y) (f z);
-  congr = λ x y z. o.congr (f x) (f y) (f z);
-}
+on_total f o = grind (arith, nat_tests)
 
 pub place_cmp_total : IsTotalOrder place_cmp
 place_cmp_total = then_total (on_total (λ (p : Place). kind_number p.0) nat_cmp_total)
@@ -56,8 +53,4 @@ then_equal Equal b e = (refl, e)
 then_equal Greater b e = absurd (let h : Greater ≡ Equal = e in cc)
 
 pub place_cmp-IsAntisymmetric : IsAntisymmetric place_cmp
-place_cmp-IsAntisymmetric p q e =
-    let both = then_equal _ _ e in
-    let kinds = same_kind p.0 q.0 (nat_cmp-IsAntisymmetric _ _ both.0) in
-    let ids = nat_cmp-IsAntisymmetric _ _ both.1 in
-    λ i. (kinds i, ids i)
+place_cmp-IsAntisymmetric p q e = grind (arith, nat_tests, then_equal, same_kind p.0 q.0)

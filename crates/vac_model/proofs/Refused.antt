@@ -1,11 +1,11 @@
 -- Refusals: a refused command changes nothing, and Full is returned exactly if an entry is needed
 -- and none is left.
 use Rattle.std.proofs.Common.{◌≡◌, ℕ, ◌+◌, ◌-◌, ◌≤◌, Bool, true, false, cond, refl, arith}
-use Rattle.std.specs.Prelude.{Option, Some, None, is_some, ◌||◌, [], ◌∷◌, nat_lt, ◌==◌}
+use Rattle.std.specs.Prelude.{Option, Some, None, nat_lt, ◌==◌}
 use Rattle.std.specs.FinMap.{get}
 use Rattle.std.proofs.lemmas.Bool.Decides.{nat_tests}
 use Rattle.vac_model.specs.declared.items.Kind.{Kind}
-use Rattle.vac_model.specs.declared.items.Kind.TheVariants.{Car, Flight, Room}
+use Rattle.vac_model.specs.declared.items.Kind.TheVariants.{Flight}
 use Rattle.vac_model.specs.declared.commands.Command.{Command}
 use Rattle.vac_model.specs.declared.commands.Command.TheVariants as command
 use Rattle.vac_model.specs.declared.commands.Refusal.{Refusal}
@@ -14,12 +14,11 @@ use Rattle.vac_model.specs.declared.commands.Refusal.TheVariants.{InUse, Exists,
 use Rattle.vac_model.specs.declared.commands.Refusal.TheVariants.{UnitLimit}
 use Rattle.vac_model.specs.declared.replies.Reply.{Reply}
 use Rattle.vac_model.specs.declared.replies.Reply.TheVariants as reply
-use Rattle.vac_model.specs.declared.replies.CustomerOutcome.TheVariants as joined
 use Rattle.vac_model.specs.declared.tasks.Task.{Task}
 use Rattle.vac_model.specs.declared.tasks.Task.TheVariants as task
-use Rattle.vac_model.specs.State.{State, bill_of, item_of, bookings_of, is_full, size}
+use Rattle.vac_model.specs.State.{State, item_of, bookings_of, is_full, size}
 use Rattle.vac_model.specs.Step.{Outcome, step, add_new, total_limit, unit_limit}
-use Rattle.vac_model.specs.Run.{run, choice_of, book_choices}
+use Rattle.vac_model.specs.Run.{run}
 use Rattle.vac_model.specs.Laws.{NeedsEntry, IsOne}
 use Rattle.vac_model.specs.Balanced.{IsBalanced}
 use Rattle.vac_model.proofs.Kept.{found_both, if_both, le_true, eq_false, lt_false}
@@ -34,41 +33,20 @@ never_done why e = absurd (let never : ◌≡◌ {A = Reply} reply.Done (reply.N
 add_new_untouched : (s : State) (kind : Kind) (id num : ℕ) (price : Option ℕ) →
     Untouched s (add_new s kind id num price)
 add_new_untouched s kind id num None = λ why e. refl
-add_new_untouched s kind id num (Some price) =
-    if_both (Untouched s) (num == 0) _ _ (λ _ why e. refl) (λ _.
-    if_both (Untouched s) (is_full s) _ _ (λ _ why e. refl) (λ _ why e. never_done why e))
+add_new_untouched s kind id num (Some price) = grind (arith, nat_tests, if_both, never_done)
 
 pub step_untouched : (s : State) (c : Command) → Untouched s (step s c)
-step_untouched s (command.Add kind id num price) =
-    found_both (Untouched s) (item_of s kind id) _ _ (λ _. add_new_untouched s kind id num price) (λ item _.
-    if_both (Untouched s) (nat_lt total_limit (item.total + num)) _ _ (λ _ why e. refl) (λ _ why e. never_done why e))
-step_untouched s (command.Delete kind id num) =
-    found_both (Untouched s) (item_of s kind id) _ _ (λ _ why e. refl) (λ item _.
-    if_both (Untouched s) (nat_lt item.free num) _ _ (λ _ why e. refl) (λ _.
-    if_both (Untouched s) (item.total - num == 0) _ _ (λ _ why e. never_done why e) (λ _ why e. never_done why e)))
-step_untouched s (command.DropFlight id) =
-    found_both (Untouched s) (item_of s Flight id) _ _ (λ _ why e. refl) (λ item _.
-    if_both (Untouched s) (nat_lt 0 item.used) _ _ (λ _ why e. refl) (λ _ why e. never_done why e))
-step_untouched s (command.NewCustomer id) =
-    found_both (Untouched s) (bookings_of s id) _ _ (λ _. if_both (Untouched s) (is_full s) _ _ (λ _ why e. refl)
-    (λ _ why e. never_done why e)) (λ b _ why e. refl)
+step_untouched s (command.Add kind id num price) = grind (arith, nat_tests, found_both, add_new_untouched s kind id num price, if_both, never_done)
+step_untouched s (command.Delete kind id num) = grind (arith, nat_tests, found_both, if_both, never_done)
+step_untouched s (command.DropFlight id) = grind (arith, nat_tests, found_both, if_both, never_done)
+step_untouched s (command.NewCustomer id) = grind (arith, nat_tests, found_both, if_both, never_done)
 step_untouched s (command.DropCustomer id) = found_both (Untouched s) (bookings_of s id) _ _ (λ _ why e. refl)
     (λ b _ why e. never_done why e)
 step_untouched s (command.Free kind id) = λ why e. refl
 step_untouched s (command.Price kind id) = λ why e. refl
 step_untouched s (command.Bill id) = λ why e. refl
-step_untouched s (command.Reserve customer kind id num) =
-    found_both (Untouched s) (bookings_of s customer) _ _ (λ _ why e. refl) (λ b _.
-    found_both (Untouched s) (item_of s kind id) _ _ (λ _ why e. refl) (λ item _.
-    if_both (Untouched s) (nat_lt item.free num) _ _ (λ _ why e. refl) (λ _.
-    found_both (Untouched s) (get b (kind, id)) _ _
-    (λ _. if_both (Untouched s) (is_full s) _ _ (λ _ why e. refl) (λ _ why e. never_done why e))
-    (λ x _. if_both (Untouched s) (nat_lt unit_limit (x.units + num)) _ _ (λ _ why e. refl)
-    (λ _ why e. never_done why e)))))
-step_untouched s (command.Cancel customer kind id) =
-    found_both (Untouched s) (bookings_of s customer) _ _ (λ _ why e. refl) (λ b _.
-    found_both (Untouched s) (item_of s kind id) _ _ (λ _ why e. refl) (λ item _.
-    found_both (Untouched s) (get b (kind, id)) _ _ (λ _ why e. refl) (λ x _ why e. never_done why e)))
+step_untouched s (command.Reserve customer kind id num) = grind (arith, nat_tests, found_both, if_both, never_done)
+step_untouched s (command.Cancel customer kind id) = grind (arith, nat_tests, found_both, never_done)
 step_untouched s command.Audit = λ why e. refl
 
 -- if Full was returned, an entry was needed and none was left
@@ -169,10 +147,7 @@ no_space s e = grind (arith, nat_tests)
 
 pub full_step : (s : State) (c : Command) → NeedsEntry s c → size s ≡ s.capacity → (step s c).1 ≡ reply.No Full
 full_step s (command.Add kind id num None) n e = absurd (let never : false ≡ true = n.price in cc)
-full_step s (command.Add kind id num (Some price)) n e =
-    let test : (num == 0) ≡ false = grind (arith, nat_tests, n.count) in
-    let full : is_full s ≡ true = no_space s e in
-    rw (n.missing, test, full) refl
+full_step s (command.Add kind id num (Some price)) n e = grind (arith, nat_tests, no_space s e)
 full_step s (command.Delete kind id num) n e = absurd n
 full_step s (command.DropFlight id) n e = absurd n
 full_step s (command.NewCustomer id) n e = let full : is_full s ≡ true = no_space s e in rw (n, full) refl
@@ -180,10 +155,7 @@ full_step s (command.DropCustomer id) n e = absurd n
 full_step s (command.Free kind id) n e = absurd n
 full_step s (command.Price kind id) n e = absurd n
 full_step s (command.Bill id) n e = absurd n
-full_step s (command.Reserve customer kind id num) n e =
-    let enough : nat_lt n.item.free num ≡ false = grind (arith, nat_tests, n.free) in
-    let full : is_full s ≡ true = no_space s e in
-    rw (n.customer, n.found, enough, n.missing, full) refl
+full_step s (command.Reserve customer kind id num) n e = grind (arith, nat_tests, no_space s e)
 full_step s (command.Cancel customer kind id) n e = absurd n
 full_step s command.Audit n e = absurd n
 
@@ -195,19 +167,7 @@ trip_answers false a b why f g e = g e
 
 pub run_answers : (s : State) (t : Task) (why : Refusal) → (run s t).1 ≡ reply.No why → IsOne t
 run_answers s (task.One c) why = λ e. tt
-run_answers s (task.Trip customer asks) why = λ e.
-    let car = choice_of s Car asks in
-    let flight = choice_of s Flight asks in
-    let room = choice_of s Room asks in
-    trip_answers (is_some car || is_some flight || is_some room) (book_choices s customer car flight room)
-    (s, reply.Trip (record { joined = joined.NotAsked; picks = None ∷ None ∷ None ∷ [] })) why
-    (λ f. let never : ◌≡◌ {A = Reply} (book_choices s customer car flight room).1 (reply.No why) = f in cc)
-    (λ f. let never : ◌≡◌ {A = Reply} (reply.Trip (record {
-      joined = joined.NotAsked;
-      picks = None ∷ None ∷ None ∷ [];
-    })) (reply.No why) = f in cc) e
-run_answers s (task.Leave customer) why = found_both (λ o. o.1 ≡ reply.No why → ⊥) (bookings_of s customer) _ _
-    (λ _ e. let never : ◌≡◌ {A = Reply} (reply.Number None) (reply.No why) = e in cc)
-    (λ b _ e. let never : ◌≡◌ {A = Reply} (reply.Number (Some (bill_of b))) (reply.No why) = e in cc)
+run_answers s (task.Trip customer asks) why = grind (arith, nat_tests, trip_answers)
+run_answers s (task.Leave customer) why = grind (arith, nat_tests, found_both)
 run_answers s (task.Update changes) why = λ e. let never : ◌≡◌ {A = Reply} (run s (task.Update changes)).1
     (reply.No why) = e in cc

@@ -1,8 +1,9 @@
 -- The units given back are the booked ones, and a bill is the sum of the prices kept.
+use Rattle.std.proofs.lemmas.Bool.Decides.{nat_tests}
 use Rattle.std.proofs.Common.{◌≡◌, ℕ, ◌+◌, ◌*◌, refl, ap, sym, subst, ◌∙◌, arith}
-use Rattle.std.specs.Prelude.{Option, Some, None, nat_lt, if◌then◌else◌, ◌==◌}
+use Rattle.std.specs.Prelude.{Option, Some, None, nat_lt, if◌then◌else◌}
 use Rattle.std.specs.Option.{option_map, option_map_or}
-use Rattle.std.specs.FinMap.{get, insert, remove, entries, nat_cmp-IsAntisymmetric}
+use Rattle.std.specs.FinMap.{get, insert, remove, nat_cmp-IsAntisymmetric}
 use Rattle.std.specs.Cmp.{nat_cmp_total}
 use Rattle.vac_model.specs.declared.items.Kind.{Kind}
 use Rattle.vac_model.specs.declared.items.Item.{Item}
@@ -11,10 +12,9 @@ use Rattle.vac_model.specs.declared.commands.Refusal.TheVariants.{SoldOut, Full,
 use Rattle.vac_model.specs.declared.replies.Reply.{Reply}
 use Rattle.vac_model.specs.declared.replies.Reply.TheVariants as reply
 use Rattle.vac_model.specs.State.{State, Booking, Bookings, item_of, with_item, bookings_of, with_bookings}
-use Rattle.vac_model.specs.State.{without_customer, units_of, is_full}
-use Rattle.vac_model.specs.Step.{Outcome, done, step, taken, given_back, give_back_all, new_booking, extended}
-use Rattle.vac_model.specs.Step.{unit_limit, book_new, book_more, refused, when_found, added, add_new, new_item}
-use Rattle.vac_model.specs.Step.{total_limit}
+use Rattle.vac_model.specs.State.{units_of, is_full}
+use Rattle.vac_model.specs.Step.{Outcome, step, taken, given_back, new_booking, extended}
+use Rattle.vac_model.specs.Step.{unit_limit, book_new, book_more, refused, when_found, add_new, new_item}
 use Rattle.vac_model.specs.Laws.{IsBilled}
 use Rattle.vac_model.proofs.Sums.{get_here, sum-insert}
 use Rattle.vac_model.proofs.Places.{place_cmp_total, place_cmp-IsAntisymmetric}
@@ -25,20 +25,12 @@ use Rattle.vac_model.proofs.Kept.{found_both, if_both}
 pub cancelled : (s : State) (c : ℕ) (kind : Kind) (id : ℕ) (bookings : Bookings) (b : Booking) (item : Item)
     → bookings_of s c ≡ Some bookings → item_of s kind id ≡ Some item → get bookings (kind, id) ≡ Some b
     → item_of (step s (command.Cancel c kind id)).0 kind id ≡ Some (given_back item b.units)
-cancelled s c kind id bookings b item h there found =
-    let is : step s (command.Cancel c kind id) ≡ done (with_item
-    (with_bookings s c (remove bookings (kind, id))) kind id (given_back item b.units)) =
-    rw (h, there, found) refl in
-    ap (λ (o : Outcome). item_of o.0 kind id) is ∙ item_here (with_bookings s c (remove bookings (kind, id))) kind id
-    (given_back item b.units)
+cancelled s c kind id bookings b item h there found = grind (arith, nat_tests, item_here (with_bookings s c (remove bookings (kind, id))) kind id (given_back item b.units))
 
 pub dropped : (s : State) (c : ℕ) (bookings : Bookings) (kind : Kind) (id : ℕ) → bookings_of s c ≡ Some bookings
     → item_of (step s (command.DropCustomer c)).0 kind id ≡ option_map
     (λ item. given_back item (units_of bookings (kind, id))) (item_of s kind id)
-dropped s c bookings kind id h =
-    let is : step s (command.DropCustomer c) ≡ done (give_back_all (without_customer s c) (entries bookings)) =
-    rw h refl in
-    ap (λ (o : Outcome). item_of o.0 kind id) is ∙ item_of-departed s c bookings kind id
+dropped s c bookings kind id h = grind (arith, nat_tests, item_of-departed s c bookings kind id)
 
 module _ (s : State) (c : ℕ) (kind : Kind) (id num : ℕ) (bookings : Bookings) (item : Item) where
   -- an outcome that took effect has the bill
@@ -99,14 +91,9 @@ SameBookings s o = (c : ℕ) → bookings_of o.0 c ≡ bookings_of s c
 
 added_new : (s : State) (kind : Kind) (id num : ℕ) (price : Option ℕ) → SameBookings s (add_new s kind id num price)
 added_new s kind id num None = λ c. refl
-added_new s kind id num (Some price) =
-    if_both (SameBookings s) (num == 0) _ _ (λ _ c. refl) (λ _.
-    if_both (SameBookings s) (is_full s) _ _ (λ _ c. refl) (λ _ c. bookings-with_item s kind id (new_item num price) c))
+added_new s kind id num (Some price) = grind (arith, nat_tests, if_both, bookings-with_item s kind id (new_item num price))
 
 -- a price that is replaced changes no bill
 pub bookings-add : (s : State) (kind : Kind) (id num : ℕ) (price : Option ℕ) →
     SameBookings s (step s (command.Add kind id num price))
-bookings-add s kind id num price =
-    found_both (SameBookings s) (item_of s kind id) _ _ (λ _. added_new s kind id num price) (λ item _.
-    if_both (SameBookings s) (nat_lt total_limit (item.total + num)) _ _ (λ _ c. refl)
-    (λ _ c. bookings-with_item s kind id (added item num price) c))
+bookings-add s kind id num price = grind (arith, nat_tests, found_both, added_new s kind id num price, if_both, bookings-with_item s kind id)

@@ -1,4 +1,5 @@
 -- Sums over the values of a finite map, and induction over finite maps.
+use Rattle.std.proofs.lemmas.Bool.Decides.{nat_tests}
 use Rattle.std.proofs.Common.{◌≡◌, ◌≢◌, ◌⊎◌, inl, inr, ℕ, ◌+◌, ◌*◌, ◌≤◌, Bool, true, false, cond, List, [], ◌∷◌, refl}
 use Rattle.std.proofs.Common.{ap, sym, subst, ◌∙◌, arith}
 use Rattle.std.specs.Prelude.{T, ◌&&◌, Option, Some, None, sum_by, unwrap_or, is_some}
@@ -71,10 +72,7 @@ module _ {K : Type 0} {R : K → K → Ordering} (o : IsTotalOrder R) (same : Is
 
   -- the test of two keys that differ
   pub apart_test : (q k : K) → q ≢ k → eq_by_cmp R q k ≡ false
-  apart_test q k apart = elim (eq_by_cmp R q k) as (λ b. eq_by_cmp R q k ≡ b → b ≡ false) [
-    | true ↦ λ e. absurd (apart (same q k (equal _ e)))
-    | false ↦ λ e. refl
-  ] refl
+  apart_test q k apart = grind (arith, nat_tests, equal)
 
 module _ {K X : Type 0} {R : K → K → Ordering} (o : IsTotalOrder R) (same : IsAntisymmetric R) where
   -- a look-up after an insertion, at the same key and at another
@@ -136,12 +134,7 @@ module _ {K X : Type 0} {R : K → K → Ordering} (o : IsTotalOrder R) (same : 
   -- a sum after an entry was removed
   pub sum-remove : (f : X → ℕ) (m : FinMap R X) (k : K) (v : X) → get m k ≡ Some v
       → sum_by f (values (remove m k)) + f v ≡ sum_by f (values m)
-  sum-remove f m k v h =
-      let put_back = sum-insert f (remove m k) k v in
-      let nothing : option_map_or f (get (remove m k) k) 0 ≡ 0 = ap (λ e. option_map_or f e 0) (get_removed m k) in
-      let again : sum_by f (values (insert (remove m k) k v)) ≡ sum_by f (values m) =
-      ap (λ n. sum_by f (values n)) (insert-remove m k v h) in
-      omega (arith, put_back, nothing, again)
+  sum-remove f m k v h = grind (arith, nat_tests, sum-insert f (remove m k) k v, get_removed m k, insert-remove m k v h)
 
   -- putting an entry that exists changes nothing
   pub insert_same : (m : FinMap R X) (k : K) (v : X) → get m k ≡ Some v → insert m k v ≡ m
@@ -159,9 +152,7 @@ module _ {K X : Type 0} {R : K → K → Ordering} (o : IsTotalOrder R) (same : 
   len_pushed m k v h = map.len-insert o m k v ∙ ap (λ e. cond (is_some e) (len m) (len m + 1)) h
 
   pub len_removed : (m : FinMap R X) (k : K) (v : X) → get m k ≡ Some v → len (remove m k) + 1 ≡ len m
-  len_removed m k v h =
-      let put_back = len_pushed (remove m k) k v (get_removed m k) in
-      sym put_back ∙ ap len (insert-remove m k v h)
+  len_removed m k v h = grind (arith, nat_tests, len_pushed (remove m k) k v (get_removed m k), get_removed m k, insert-remove m k v h)
 
   pub get_elsewhere : (m : FinMap R X) (k : K) (v : X) (q : K) → q ≢ k → get (insert m k v) q ≡ get m q
   get_elsewhere m k v q apart = map.get-insert o m k v q ∙ ap (λ b. cond b (Some v) (get m q))

@@ -1,4 +1,6 @@
 -- The words of items, of changes and of commands, each after a space.
+use Rattle.std.proofs.Common.{arith}
+use Rattle.std.proofs.lemmas.Bool.Decides.{nat_tests}
 use Rattle.std.proofs.Common.{◌≡◌, ℕ, ◌+◌, ◌<◌, List, [], ◌∷◌, ◌++◌, refl, ap, sym, ◌∙◌, codes, length, get_or, take}
 use Rattle.std.proofs.Common.{append-nil}
 use Rattle.std.specs.List.{flat_map}
@@ -52,7 +54,4 @@ change_more changes i d h =
 pub changes_spaced : (first : Command) (rest : List Command) →
     (codes " " ++ words_text (command_words first)) ++ flat_map (λ c. spaced (further_words c)) rest
     ≡ spaced (changes_words (first ∷ rest))
-changes_spaced first rest =
-    ap (λ t. t ++ flat_map (λ c. spaced (further_words c)) rest) (command_spaced first)
-    ∙ ap (λ t. spaced (command_words first) ++ t) (spaced_each further_words rest)
-    ∙ sym (spaced_both (command_words first) (flat_map further_words rest))
+changes_spaced first rest = grind (arith, nat_tests, command_spaced first, spaced_each further_words rest, spaced_both (command_words first) (flat_map further_words rest))

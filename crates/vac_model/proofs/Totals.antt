@@ -1,10 +1,11 @@
 -- In a balanced state, the used units are the booked units.
-use Rattle.std.proofs.Common.{◌≡◌, ◌≢◌, ℕ, ◌+◌, cond, List, [], ◌∷◌, refl, ap, sym, ◌∙◌, arith, inl, inr}
+use Rattle.std.proofs.lemmas.Bool.Decides.{nat_tests}
+use Rattle.std.proofs.Common.{◌≡◌, ◌≢◌, ℕ, ◌+◌, cond, List, [], ◌∷◌, ap, sym, ◌∙◌, arith, inl, inr}
 use Rattle.std.specs.Prelude.{Some, None, IsSome, is_some, sum_by}
 use Rattle.std.specs.Option.{option_map_or}
 use Rattle.std.specs.declared.cmp.Ordering.{Ordering}
-use Rattle.std.specs.declared.cmp.Ordering.TheVariants.{Less, Equal, Greater}
-use Rattle.std.specs.Ordering.{is_eq, eq_by_cmp, match_ordering, nat_cmp}
+use Rattle.std.specs.declared.cmp.Ordering.TheVariants.{Equal, Greater}
+use Rattle.std.specs.Ordering.{is_eq, eq_by_cmp, nat_cmp}
 use Rattle.std.specs.Cmp.{IsTotalOrder, nat_cmp_total, tied_itself}
 use Rattle.std.specs.FinMap as map
 use Rattle.std.specs.FinMap.{FinMap, IsAntisymmetric, find, put, get, insert, entries, values, empty}
@@ -33,18 +34,7 @@ module _ {K X : Type 0} (R : K → K → Ordering) where
   sum-put : (f : K × X → ℕ) (k : K) (v : X) (es : List (K × X)) → find R k es ≡ None →
       sum_by f (put R k v es) ≡ sum_by f es + f (k, v)
   sum-put f k v [] none = omega (arith, sum_by-cons f (k, v) [])
-  sum-put f k v (e ∷ es) none =
-      elim (R k e.0) as (λ o. R k e.0 ≡ o → sum_by f (match_ordering o ((k, v) ∷ e ∷ es) ((e.0, v) ∷ es)
-      (e ∷ put R k v es)) ≡ sum_by f (e ∷ es) + f (k, v)) [
-        | Less ↦ λ is. omega (arith, sum_by-cons f (k, v) (e ∷ es))
-        | Equal ↦ λ is. absurd (not_tied k e es is none)
-        | Greater ↦ λ is. omega (
-          arith,
-          sum_by-cons f e (put R k v es),
-          sum_by-cons f e es,
-          sum-put f k v es (later k e es is none),
-        )
-      ] refl
+  sum-put f k v (e ∷ es) none = grind (arith, nat_tests, sum_by-cons f (k, v) (e ∷ es), sum_by-cons f e, sum_by-cons f e es, sum-put f k v es, later k e es)
 
 -- a number of each key, added up
 abbrev key_sum : {K X : Type 0} {R : K → K → Ordering} → (K → ℕ) → FinMap R X → ℕ
@@ -117,15 +107,7 @@ module _ {K X : Type 0} {R : K → K → Ordering} (o : IsTotalOrder R) (same : 
       ))
 
   key_sum-same : (g h : K → ℕ) → ((k : K) → g k ≡ h k) → (m : FinMap R X) → key_sum g m ≡ key_sum h m
-  key_sum-same g h is = by_entries o same (λ m. key_sum g m ≡ key_sum h m)
-      (omega (arith, no_sum (λ e. g e.0), no_sum (λ e. h e.0)))
-      (λ m k v new more. omega (
-        arith,
-        more,
-        is k,
-        entry_sum-push (λ e. g e.0) m k v new,
-        entry_sum-push (λ e. h e.0) m k v new,
-      ))
+  key_sum-same g h is = grind (arith, nat_tests, by_entries, no_sum)
 
 -- a number of each item's place, added up over the three tables
 abbrev place_sum : State → (Place → ℕ) → ℕ
@@ -142,24 +124,10 @@ place_sum-+ s g h =
     )
 
 place_sum-same : (s : State) (g h : Place → ℕ) → ((p : Place) → g p ≡ h p) → place_sum s g ≡ place_sum s h
-place_sum-same s g h is =
-    omega (
-      arith,
-      key_sum-same nat_cmp_total nat_cmp-IsAntisymmetric (λ i. g (Car, i)) (λ i. h (Car, i)) (λ i. is (Car, i)) s.cars,
-      key_sum-same nat_cmp_total nat_cmp-IsAntisymmetric (λ i. g (Flight, i)) (λ i. h (Flight, i))
-          (λ i. is (Flight, i)) s.flights,
-      key_sum-same nat_cmp_total nat_cmp-IsAntisymmetric (λ i. g (Room, i)) (λ i. h (Room, i))
-          (λ i. is (Room, i)) s.rooms,
-    )
+place_sum-same s g h is = grind (arith, nat_tests, key_sum-same)
 
 place_sum-zero : (s : State) (h : Place → ℕ) → ((p : Place) → h p ≡ 0) → place_sum s h ≡ 0
-place_sum-zero s h none =
-    omega (
-      arith,
-      no_key nat_cmp_total nat_cmp-IsAntisymmetric (λ i. h (Car, i)) (λ i. none (Car, i)) s.cars,
-      no_key nat_cmp_total nat_cmp-IsAntisymmetric (λ i. h (Flight, i)) (λ i. none (Flight, i)) s.flights,
-      no_key nat_cmp_total nat_cmp-IsAntisymmetric (λ i. h (Room, i)) (λ i. none (Room, i)) s.rooms,
-    )
+place_sum-zero s h none = grind (arith, nat_tests, no_key)
 
 -- places of two kinds differ
 ids_apart : (kind : Kind) (i id : ℕ) → i ≢ id → (◌≢◌ {A = Place} (kind, i) (kind, id))

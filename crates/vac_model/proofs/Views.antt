@@ -1,8 +1,9 @@
 -- A map of the library, seen as a finite map of its entries.
+use Rattle.std.proofs.lemmas.Bool.Decides.{nat_tests}
 use Rattle.std.proofs.Common.{◌≡◌, true, false, cond, List, [], ◌∷◌, map, refl, ap, sym, subst, ◌∙◌, arith}
 use Rattle.std.specs.Prelude.{Option, Some, None, IsSome, is_some, Result, Ok, Err, OnErr, unwrap_or, length}
 use Rattle.std.specs.declared.cmp.Ordering.{Ordering}
-use Rattle.std.specs.declared.cmp.Ordering.TheVariants.{Less, Equal, Greater}
+use Rattle.std.specs.declared.cmp.Ordering.TheVariants.{Less}
 use Rattle.std.specs.Ordering.{is_eq, eq_by_cmp, match_ordering}
 use Rattle.std.specs.Cmp.{IsTotalOrder, eq_by_cmp_equiv}
 use Rattle.std.specs.List.{AllByRecursion}
@@ -33,13 +34,7 @@ module _ {K X : Type 0} (R : K → K → Ordering) where
   -- both ways to insert an entry agree
   pub put-insert_entry : (k : K) (v : X) (es : List (K × X)) → put R k v es ≡ insert_entry R es k v
   put-insert_entry k v [] = refl
-  put-insert_entry k v (e ∷ es) =
-      elim (R k e.0) as (λ o. match_ordering o ((k, v) ∷ e ∷ es) ((e.0, v) ∷ es) (e ∷ put R k v es) ≡ match_ordering o
-      ((k, v) ∷ e ∷ es) ((e.0, v) ∷ es) (e ∷ insert_entry R es k v)) [
-        | Less ↦ refl
-        | Equal ↦ refl
-        | Greater ↦ ap (λ r. e ∷ r) (put-insert_entry k v es)
-      ]
+  put-insert_entry k v (e ∷ es) = grind (arith, nat_tests, put-insert_entry k v es)
 
   -- an entry below all others goes to the front
   put_first : (k : K) (v : X) (es : List (K × X)) → AllByRecursion (λ y. R k y ≡ Less) (keys_of es) →

@@ -24,7 +24,7 @@ use Rattle.vac_bookings.specs.Lists.{IsListAt, SomeBooking, HasList, First, HasB
 use Rattle.vac_bookings.specs.declared.search.Spot.{Spot}
 use Rattle.vac_bookings.specs.Search.{SpotAt}
 use Rattle.vac_bookings.proofs.Frame.{list_booked}
-use Rattle.vac_bookings.proofs.Reading.{linked_first}
+use Rattle.vac_bookings.proofs.Frame.{linked_first}
 use Rattle.vac_bookings.proofs.Spots.{first_spot}
 use Rattle.vac_records.specs.Items.{mem, item_in}
 use Rattle.vac_records.specs.Bookings.{place_in, place_key, booking_in}

@@ -11,7 +11,7 @@ use Rattle.vac_bookings.specs.declared.search.Spot.{Spot}
 use Rattle.vac_bookings.specs.Lists.{IsListAt, IsOutside}
 use Rattle.vac_bookings.specs.Search.{SpotAt}
 use Rattle.vac_bookings.proofs.Frame.{linked_lower, linked_once, list_block}
-use Rattle.vac_bookings.proofs.Open.{none_below}
+use Rattle.vac_bookings.proofs.Frame.{none_below}
 use Rattle.vac_tasks.specs.Starts.{MayStart}
 
 -- the link is the head, or is in a block that is none of these rows

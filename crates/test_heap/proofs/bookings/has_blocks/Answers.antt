@@ -1,5 +1,5 @@
 use Rattle.std.proofs.Common.{◌∙◌}
-use Rattle.vac_bookings.proofs.After.{next_booking}
+use Rattle.vac_bookings.proofs.Reading.{next_booking}
 use Rattle.test_stock.proofs.Stocked.{stock_read}
 use Rattle.test_heap.proofs.bookings.has_blocks.Goals as goal
 

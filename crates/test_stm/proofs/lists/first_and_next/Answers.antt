@@ -1,4 +1,4 @@
-use Rattle.vac_bookings.proofs.After.{first_booking}
+use Rattle.vac_bookings.proofs.Reading.{first_booking}
 use Rattle.test_stock.proofs.Stocked.{stock_list, stock_read}
 use Rattle.test_stm.proofs.lists.first_and_next.Goals as goal
 
