@@ -9,6 +9,8 @@ A file tests/plants/CRATE.plants is a list of plants, blocks of lines with an em
                                                 'clause `NAME` of ..', or of a struct that has it, 'row CRATE:
                                                 TEST' or MODULE::TEST, or 'script tests/NAME', each alone or with
                                                 plain words behind ': '; or why it is 'harmless: ..'
+    gate: promise 4                             only if ./test tries it: it stands for a promise of
+                                                docs/PROMISES.md, or 'gate: clause' for its clause alone
     file: src/version.rt                        then as in a must-fail edit: a text that stands once in the
     old: TEXT                                   file, and what stands there in its place; more pairs, and other
     new: TEXT                                   files, may follow
@@ -60,6 +62,7 @@ class Plant:
     crate: str
     name: str
     by: str = ""
+    gate: str = ""
     edits: list = field(default_factory=list)
 
     def texts(self):
@@ -92,6 +95,8 @@ class Plant:
         try:
             if not self.edits or not re.match(r"(clause |row \w+: |script tests/|harmless: )", self.by):
                 return "it has no pair of texts, or no word on what must refuse it"
+            if not re.fullmatch(r"|clause|promise [1-9]\d*", self.gate):
+                return f"its line 'gate:' names neither a promise nor 'clause': {self.gate}"
             texts = self.texts()
             same = all((ROOT / "crates" / self.crate / file).read_text() == text for file, text in texts.items())
             return "it changes nothing" if same else None
@@ -142,6 +147,8 @@ def read_list(path):
             faults.append(f"{path.name}:{number}: no plant stands above this line")
         elif word == "by":
             plants[-1].by = text
+        elif word == "gate":
+            plants[-1].gate = text
         elif word == "file":
             file = text
         elif word == "old":
