@@ -39,6 +39,22 @@ FAILED = (PROVED, BAD, UNSURE)
 WORDS = {SHOWN: "shown", HAND: "hand", LIMIT: "limit", PROVED: "proved"}
 
 
+def kit_for_beds():
+    """The kit's module, which takes what the gate built for built, and looks at the texts of a crate once."""
+    kit = kit_module()
+    kit.guarded()
+    stand_on_gate(kit)
+    look, seen = kit.stop_on_text, set()
+
+    def look_once(crate, verb):
+        if crate.folder not in seen:
+            look(crate, verb)
+            seen.add(crate.folder)
+
+    kit.stop_on_text = look_once
+    return kit
+
+
 def linked(folder, to):
     """Copies kept work; what is proved by links, since a check replaces such a file and changes none."""
 
@@ -57,12 +73,10 @@ class Bed:
     """A crate in which mutants are tried, over the builds of the libraries below it that the gate or the launcher left,
     and over what rt check kept of the crate itself, if it did."""
 
-    def __init__(self, name, jobs):
+    def __init__(self, kit, name, jobs):
         os.chdir(ROOT / "crates" / name)
-        self.kit = kit_module()
-        self.kit.guarded()
-        stand_on_gate(self.kit)
-        building = Building(self.kit, jobs, "plant")
+        self.kit = kit
+        building = Building(kit, jobs, "plant")
         self.crate = building.program
         if building.left:
             left = ", ".join(below.name for below in building.left)
@@ -294,12 +308,12 @@ class Report:
 def try_all(mutants, report, jobs):
     """Tries mutants in batches, as many at once as there are jobs, those of the largest crates first."""
     crates = {crate: [m for m in mutants if m.crate == crate] for crate in {m.crate for m in mutants}}
-    beds, running = {}, {}
+    beds, running, kit = {}, {}, kit_for_beds()
     with ThreadPoolExecutor(jobs) as pool:
         for crate, here in sorted(crates.items(), key=lambda one: -cost_of_crate(one[0])):
             print(f"plant: {crate}: {len(here)} mutants", flush=True)
             try:
-                beds[crate] = Bed(crate, jobs)
+                beds[crate] = Bed(kit, crate, jobs)
             except OSError as error:
                 for mutant in here:
                     report.tell(mutant, UNSURE, [str(error)])
