@@ -93,87 +93,115 @@ class Bed:
         else:
             os.mkdir(self.seed)
 
-    def check(self, texts, flags):
-        """Checks a copy of the crate with these texts in the place of its own. Returns the status and what was said."""
-        with tempfile.TemporaryDirectory(dir=self.room.name) as room:
-            for part in PARTS:
-                if os.path.isdir(f"{self.crate.folder}/{part}"):
-                    shutil.copytree(f"{self.crate.folder}/{part}", f"{room}/{part}")
-            for path, text in texts.items():
-                Path(f"{room}/{path}").write_text(text)
-            linked(self.seed, f"{room}/kept")
-            words = self.crate.words(["--jobs", "1", *flags], keeps=False)
-            words = [*self.kit.guarded(), self.kit.RATTLE, "check", *words, "--incremental", f"{room}/kept"]
-            how = {"cwd": room, "stdin": subprocess.DEVNULL, "stdout": subprocess.PIPE, "stderr": subprocess.STDOUT}
-            ran = subprocess.run(words, errors="replace", check=False, **how)
-            if ran.returncode == -signal.SIGKILL:
-                # (most likely for memory)
-                ran = subprocess.run(words, errors="replace", check=False, **how)
-        return ran.returncode, ran.stdout
-
-    def attempt(self, mutant):
-        """What a try of the mutant comes to, and what shows it: first its functions alone, then the crate, unless no
-        clause is meant to refuse it."""
-        texts = mutant.texts()
-        flags = [word for name in mutant.functions for word in ("--only", name)]
-        came_to, shown = self.attempt_by(texts, flags) if flags else (UNSURE, [])
-        if came_to == UNSURE or (came_to == PROVED and mutant.by.startswith("clause")):
-            return self.attempt_by(texts, [])
-        return came_to, shown
-
-    def attempt_by(self, texts, flags):
-        """The same by one check; where answers by hand no longer fit, once more without these."""
-        status, said = self.check(texts, flags)
-        came_to, shown = judged(status, said)
-        texts, dropped = self.without_answers(texts, said)
-        if came_to != HAND or not dropped:
-            return came_to, shown
-        came_to, shown = judged(*self.check(texts, flags))
-        names = {name.strip(" !") for line in shown for name in line.split(": ", 1)[-1].split(",")}
-        if came_to == SHOWN and names <= dropped and not any("!" in line for line in shown):
-            return HAND, [f"{line}, which wanted a proof by hand before" for line in shown]
-        return came_to, shown
-
-    def attempt_many(self, mutants):
-        """What the tries of mutants in different bodies come to, by one check of all their functions, and more where
-        answers by hand no longer fit: a body is proved by the contracts of what it calls, so none changes what is said
-        of another. A mutant whose functions do not fail by this check is tried alone. Tells the seconds too."""
+    def try_batch(self, mutants):
+        """What the tries of mutants in different bodies come to, and the seconds that they took. They are planted in one
+        copy, and their functions alone are checked: a body is proved by the contracts of what it calls, so none changes
+        what is said of another. Those whose functions do not fail so are tried alone."""
         began = time.monotonic()
-        if len(mutants) == 1:
-            return [(mutants[0], *self.attempt(mutants[0]))], time.monotonic() - began
-        texts, dropped = planted(mutants), set()
-        flags = [word for mutant in mutants for name in mutant.functions for word in ("--only", name)]
-        for _ in range(MOST_ROUNDS):
-            status, said = self.check(texts, flags)
-            texts, more = self.without_answers(texts, said)
-            dropped |= more
-            if not more:
-                break
-        told = {} if more else goals_by_function(status, said)
-        tried = []
-        for mutant in mutants:
-            goals = [goal for name in mutant.functions for goal in told.get(name, [])]
-            shown = f"{', '.join(mutant.functions)}: {', '.join(goals)}"
-            if not goals:
-                tried.append((mutant, *self.attempt(mutant)))
-            elif all(goal in dropped for goal in goals):
-                tried.append((mutant, HAND, [f"{shown}, which wanted a proof by hand before"]))
-            else:
-                tried.append((mutant, SHOWN, [shown]))
+        with tempfile.TemporaryDirectory(dir=self.room.name) as room:
+            copy = Copy(self, room)
+            tried = copy.try_together(mutants) if len(mutants) > 1 else []
+            alone = [mutant for mutant in mutants if mutant not in [one for one, _, _ in tried]]
+            tried += [(mutant, *copy.try_alone(mutant)) for mutant in alone]
         return tried, time.monotonic() - began
-
-    def without_answers(self, texts, said):
-        """The texts without the answers by hand that no longer fit, and the names of these."""
-        texts, dropped = dict(texts), set()
-        for file, name in ANSWER.findall(said):
-            text = texts.get(file) or Path(f"{self.crate.folder}/{file}").read_text()
-            texts[file] = re.sub(rf"(?ms)^pub {re.escape(name)} :.*?(?=^pub |^abbrev |\Z)", "", text)
-            dropped.add(name)
-        return texts, dropped
 
     def close(self):
         """Removes what it kept."""
         self.room.cleanup()
+
+
+class Copy:
+    """A copy of a crate in which one text after the other is checked, each over what the checks before it proved."""
+
+    def __init__(self, bed, room):
+        self.bed, self.room, self.changed = bed, room, set()
+        for part in PARTS:
+            if os.path.isdir(f"{bed.crate.folder}/{part}"):
+                shutil.copytree(f"{bed.crate.folder}/{part}", f"{room}/{part}")
+        linked(bed.seed, f"{room}/kept")
+
+    def check(self, texts, functions):
+        """Checks the copy with these texts in the place of the crate's own, and these functions of it alone, if any are
+        given. Returns the status and what was said."""
+        for path in self.changed - set(texts):
+            shutil.copyfile(f"{self.bed.crate.folder}/{path}", f"{self.room}/{path}")
+        for path, text in texts.items():
+            Path(f"{self.room}/{path}").write_text(text)
+        self.changed = set(texts)
+        kit, flags = self.bed.kit, [word for name in functions for word in ("--only", name)]
+        words = [*self.bed.crate.words(["--jobs", "1", *flags], keeps=False), "--incremental", f"{self.room}/kept"]
+        how = {"cwd": self.room, "stdin": subprocess.DEVNULL, "stdout": subprocess.PIPE, "stderr": subprocess.STDOUT}
+        for _ in range(2):
+            ran = subprocess.run([*kit.guarded(), kit.RATTLE, "check", *words], errors="replace", check=False, **how)
+            # (most likely for memory)
+            if ran.returncode != -signal.SIGKILL:
+                break
+        return ran.returncode, ran.stdout
+
+    def try_together(self, mutants):
+        """What these mutants come to, without those of which one check of all their functions does not tell it. If
+        answers by hand no longer fit, the functions are checked once more without these answers."""
+        texts, dropped, tried, left = planted(mutants), set(), [], list(mutants)
+        for _ in range(MOST_ROUNDS):
+            status, said = self.check(texts, [name for mutant in left for name in mutant.functions])
+            if status != 1 or any(map(UNREAD.search, said.split("\n"))):
+                break
+            told, wanted, left = goals_by_function(said), left, []
+            texts, now = self.without_answers(texts, said)
+            for mutant in wanted:
+                goals = [(f"{folder_of(name)}/Answers.antt", goal) for name in mutant.functions
+                         for goal in told.get(name, [])]
+                folders = tuple(f"./{folder_of(name)}/" for name in mutant.functions)
+                by_hand = [line for line in said.split("\n") if line.startswith(folders) and BY_HAND.match(line)]
+                shown = f"{', '.join(mutant.functions)}: {', '.join(goal for _, goal in goals)}"
+                if any(goal not in dropped for goal in goals):
+                    tried.append((mutant, SHOWN, [shown]))
+                elif any(f"./{file}".startswith(folders) for file, _ in now):
+                    left.append(mutant)
+                elif goals:
+                    tried.append((mutant, HAND, [f"{shown}, which wanted a proof by hand before"]))
+                elif by_hand:
+                    tried.append((mutant, HAND, by_hand))
+            dropped |= now
+            if not left:
+                break
+        return tried
+
+    def try_alone(self, mutant):
+        """What a try of the mutant comes to, and what shows it: first its functions alone, then the crate, unless no
+        clause is meant to refuse it."""
+        texts = mutant.texts()
+        came_to, shown = self.try_texts(texts, mutant.functions) if mutant.functions else (UNSURE, [])
+        if came_to == UNSURE or (came_to == PROVED and mutant.by.startswith("clause")):
+            return self.try_texts(texts, [])
+        return came_to, shown
+
+    def try_texts(self, texts, functions):
+        """The same by one check; where answers by hand no longer fit, once more without these."""
+        status, said = self.check(texts, functions)
+        came_to, shown = judged(status, said)
+        texts, dropped = self.without_answers(texts, said)
+        if came_to != HAND or not dropped:
+            return came_to, shown
+        came_to, shown = judged(*self.check(texts, functions))
+        names = {name.strip(" !") for line in shown for name in line.split(": ", 1)[-1].split(",")}
+        if came_to == SHOWN and names <= {name for _, name in dropped} and not any("!" in line for line in shown):
+            return HAND, [f"{line}, which wanted a proof by hand before" for line in shown]
+        return came_to, shown
+
+    def without_answers(self, texts, said):
+        """The texts without the answers by hand that no longer fit, and these answers: each with its file."""
+        texts, dropped = dict(texts), set()
+        for file, name in ANSWER.findall(said):
+            text = texts.get(file) or Path(f"{self.bed.crate.folder}/{file}").read_text()
+            texts[file] = re.sub(rf"(?ms)^pub {re.escape(name)} :.*?(?=^pub |^abbrev |\Z)", "", text)
+            dropped.add((file, name))
+        return texts, dropped
+
+
+def folder_of(function):
+    """The folder of a function's proof by hand, in its crate."""
+    return f"proofs/{function.replace('::', '/')}"
 
 
 GOALS = re.compile(r"^fn (\S+): (?:no proof|not proved): (?!it calls|it passes)(?:.*`search` did not prove (.*)|(.*))")
@@ -212,11 +240,9 @@ def judged(status, said):
     return SHOWN, [told for _, told in goals] or lines[-3:]
 
 
-def goals_by_function(status, said):
-    """The goals that stayed open, by function; none, where the check said something else too."""
+def goals_by_function(said):
+    """The goals that stayed open, by function."""
     lines = said.rstrip("\n").split("\n")
-    if status != 1 or any(map(UNREAD.search, lines)) or any(map(BY_HAND.match, lines)):
-        return {}
     false = {found[1] for found in map(FALSE.match, lines) if found}
     told = {}
     for found in filter(None, map(GOALS.match, lines)):
@@ -319,7 +345,7 @@ def try_all(mutants, report, jobs):
                     report.tell(mutant, UNSURE, [str(error)])
                 continue
             for batch in batches(here, jobs if len(crates) == 1 else 1):
-                running[pool.submit(beds[crate].attempt_many, batch)] = crate
+                running[pool.submit(beds[crate].try_batch, batch)] = crate
         for done in as_completed(running):
             tried, seconds = done.result()
             report.seconds[running[done]] += seconds
