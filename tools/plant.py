@@ -144,7 +144,7 @@ class Copy:
         texts, dropped, tried, left = planted(mutants), set(), [], list(mutants)
         for _ in range(MOST_ROUNDS):
             status, said = self.check(texts, [name for mutant in left for name in mutant.functions])
-            if status != 1 or any(map(UNREAD.search, said.split("\n"))):
+            if status != 1 or any(map(is_unread, said.split("\n"))):
                 break
             told, wanted, left = goals_by_function(said), left, []
             texts, now = self.without_answers(texts, said)
@@ -208,8 +208,16 @@ GOALS = re.compile(r"^fn (\S+): (?:no proof|not proved): (?!it calls|it passes)(
 FALSE = re.compile(r"^note: \S+: .*\(`([^`]+)`\).*allow values at which this goal is false")
 BY_HAND = re.compile(r"^\./(proofs/\S+\.antt):(\d+):\d+: error: (.*)")
 ANSWER = re.compile(r"(?m)^\./(proofs/\S+/Answers\.antt):\d+:\d+: error: `([^`]+)`")
-UNREAD = re.compile(r"^(?:\./)?src/\S+: error|\berror\[[\w-]+\]")
+# A text that can't be read, and not one of which something is false: its error names no goal, or a name that is not there.
+UNREAD = re.compile(r"(?:\./)?(?:src|specs)/\S+?:\d+:\d+: error: (?!`[^`]*`: )"
+                    r"|(?:\./)?(?:src|specs)/\S+: error: .*(?:is not in scope|has no field|is no name|cannot continue)")
+CODE = re.compile(r"\berror\[[\w-]+\]")
 LIMITS = re.compile(r"antt ran out of (stack|the (steps|memory))|(outgrew the memory limit|stopped at the step limit) \(")
+
+
+def is_unread(line):
+    """Whether a line says that a text can't be read."""
+    return UNREAD.match(line) or CODE.search(line)
 
 
 def judged(status, said):
@@ -219,7 +227,7 @@ def judged(status, said):
     lines = said.rstrip("\n").split("\n")
     if status == 0:
         return PROVED, []
-    unread = [line for line in lines if UNREAD.search(line)]
+    unread = [line for line in lines if is_unread(line)]
     if unread:
         return BAD, unread[:2]
     if status == 3 and LIMITS.search(said):
@@ -237,7 +245,7 @@ def judged(status, said):
         return SHOWN, [told for is_searched, told in goals if is_searched]
     if by_hand or any("expected a measure" in told or "expected an invariant" in told for _, told in goals):
         return HAND, by_hand or [told for _, told in goals]
-    return SHOWN, [told for _, told in goals] or lines[-3:]
+    return (SHOWN, [told for _, told in goals]) if goals else (HAND, lines[-3:])
 
 
 def goals_by_function(said):
