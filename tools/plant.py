@@ -421,7 +421,8 @@ def main():
     if options.all:
         report.table()
     told = ", ".join(f"{number} {kind}" for kind, number in total.most_common())
-    print(f"plant: {len(left)} tried in {time.monotonic() - began:.0f} seconds; in all {told or 'none'}")
+    spent = f"{time.monotonic() - began:.0f} seconds, {sum(report.seconds.values()):.0f} of provers"
+    print(f"plant: {len(left)} tried in {spent}; in all {told or 'none'}")
     failed = sum(total[kind] for kind in FAILED)
     if options.gate:
         print(f"{total.total() - failed} passed, {failed} failed")
