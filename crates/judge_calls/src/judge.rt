@@ -51,7 +51,7 @@ fn empty_manager(alloc: Global, blocks: u32) -> Sequential
 /// Runs a task in place, and returns its reply. If memory is refused, the state is lost.
 fn run_in_place(manager: &mut Sequential, alloc: Global, task: &Task) -> Result<Reply, AllocError>
     requires in_range { is_task task.now ≡ true }
-    ensures ran { IfOk result (λ reply. tasks.run manager.old task.now ≡ (manager.new, reply)) }
+    ensures { IfOk result (λ reply. tasks.run manager.old task.now ≡ (manager.new, reply)) }
 {
     let before = replace(manager, empty_manager(alloc, 1));
     match before.after(task) {

@@ -17,7 +17,7 @@ returns-in-Some c = λ s earlier f. record {
 pub returns-then-not-branch : goal.returns-then-not-branch
 returns-then-not-branch c = λ s earlier f.
     let call = shown_call c.args.call.now in
-    let ran = stepped (λ t. run t call.op) _ s _ _ c.in_ok-run_in_place.ensures f.state in
+    let ran = stepped (λ t. run t call.op) _ s _ _ c.in_ok-reply.ensures f.state in
     let reply = ran.1 in
     let same : false ≡ is_right call.reply (run s call.op).1 =
     sym c.if-not-branch.true ∙ c.in_ok-is_expected.ensures ∙ ap (is_right call.reply) (sym reply) in
@@ -30,7 +30,7 @@ returns-then-not-branch c = λ s earlier f.
 pub returns : goal.returns
 returns c = λ s earlier f.
     let call = shown_call c.args.call.now in
-    let ran = stepped (λ t. run t call.op) _ s _ _ c.in_ok-run_in_place.ensures f.state in
+    let ran = stepped (λ t. run t call.op) _ s _ _ c.in_ok-reply.ensures f.state in
     let reply = ran.1 in
     let times = c.in_default.ensures s earlier f in
     let same : true ≡ is_right call.reply (run s call.op).1 =
