@@ -235,10 +235,11 @@ def main():
     if not cases:
         sys.exit(f"cases: there are no cases in {ROWS}")
     with concurrent.futures.ThreadPoolExecutor(os.cpu_count()) as workers:
-        wrong = [why for why in workers.map(wrong_case, cases) if why is not None]
-    for why in wrong:
+        wrong = {case.place: why for case, why in zip(cases, workers.map(wrong_case, cases)) if why is not None}
+    for why in wrong.values():
         print(why, file=sys.stderr)
-    print(f"rows: {len(cases) - len(wrong)} of {len(cases)} cases are as they should be")
+    every = {case.place for case in cases}
+    print(f"rows: {len(every) - len(wrong)} of {len(every)} cases are as they should be")
     sys.exit(1 if wrong else 0)
 
 
