@@ -44,5 +44,3 @@ mod scripts;
 mod spent;
 #[cfg(test)]
 mod states;
-#[cfg(test)]
-mod threads;
