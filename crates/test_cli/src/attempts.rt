@@ -4,11 +4,14 @@ use crate::small_load::SETTINGS;
 use load_record::{AttemptRecorder, StampClock, write_attempts};
 use load_run::{Load, Recorders};
 use load_tasks::Settings;
+use std::process::Abort;
+use std::sync::Wait;
+use std::thread::Threads;
 use stm_attempt::NoGate;
 
 /// A clock that always shows 0.
 #[derive(Clone, Copy, Drop)]
-struct Still;
+pub(crate) struct Still;
 
 impl StampClock for Still {
     ghost shows = { λ _ _ _. Unit {0} };
@@ -18,7 +21,7 @@ impl StampClock for Still {
     }
 }
 
-/// The settings of a load with one question. Its heap has four blocks.
+/// The settings of a load with one question.
 const ONE_QUESTION: Settings = Settings {
     tasks: 1,
     items: 1,
@@ -27,25 +30,37 @@ const ONE_QUESTION: Settings = Settings {
     ..SETTINGS
 };
 
+/// The recorders of a load's attempts.
+type Kept = Recorders<AttemptRecorder<Still>>;
+
+/// Runs a load and returns the number of its clients' attempts, and the recorders of all attempts.
+fn attempted<R: Threads + Wait + Abort + AllocGlobal>(rt: &R, settings: &Settings) -> (u64, Kept) {
+    let alloc = rt.alloc();
+    let mut clients = Vec::new(alloc);
+    for _ in 0..settings.clients {
+        clients
+            .push(AttemptRecorder::new(alloc, Still))
+            .expect(rt, "there is memory");
+    }
+    let opening = AttemptRecorder::new(alloc, Still);
+    let recorders = Recorders { opening, clients };
+    let Ok(load) = Load::by_seed(alloc, settings, NoGate, recorders) else {
+        panic!(rt; "a setting is out of its range")
+    };
+    let Ok((_, statistics, kept)) = load.run(rt) else {
+        panic!(rt; "the load stopped")
+    };
+    (statistics.attempts, kept)
+}
+
 /// The heap of one block ends before word 24, which the second command writes.
 #[test]
 fn attempts_outside_of_the_heap(rt: HostRuntime) {
-    let alloc = rt.alloc();
-    let Ok(clients) = vec![in alloc; AttemptRecorder::new(alloc, Still)] else {
-        panic!(rt; "there is no memory")
-    };
-    let opening = AttemptRecorder::new(alloc, Still);
-    let recorders = Recorders { opening, clients };
-    let Ok(load) = Load::by_seed(alloc, &ONE_QUESTION, NoGate, recorders) else {
-        panic!(rt; "a setting is out of its range")
-    };
-    let Ok((_, _, kept)) = load.run(&rt) else {
-        panic!(rt; "the load stopped")
-    };
-    let mut out = Vec::new(alloc);
+    let (_, kept) = attempted(&rt, &ONE_QUESTION);
     let clients = kept.clients.as_slice();
     assert_eq!(rt; clients.len(), 1);
-    let written = write_attempts(alloc, 1, &kept.opening, clients, &mut out);
+    let mut out = Vec::new(rt.alloc());
+    let written = write_attempts(rt.alloc(), 1, &kept.opening, clients, &mut out);
     assert!(rt; matches!(written, Ok(false)));
     assert_eq!(rt; out.len(), 0);
 }

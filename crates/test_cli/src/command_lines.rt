@@ -63,10 +63,11 @@ fn a_version_that_is_not_written_whole(rt: HostRuntime) {
 
 #[test]
 fn a_help_that_is_not_written(rt: HostRuntime) {
-    for word in ["--help", "help", "-h"] {
+    for last in ["--help", "help", "-h"] {
+        let words = &["vacation", last];
         let mut input: &[u8] = b"";
         let mut broken = Sink::new(rt.alloc(), 1, 0, Stop::Nothing);
-        let ended = run_line(&rt, &rt, &["vacation", word], &mut input, &mut broken);
+        let ended = run_line(&rt, &rt, words, &mut input, &mut broken);
         same(&rt, &ended.0, &1);
     }
 }
