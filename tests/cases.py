@@ -1,11 +1,12 @@
-"""Runs the program on the cases of tests/row_data/*.cases, as many at a time as there are processors. Called by
-tests/rows.sh, which gives it the function `run_words` that runs the program.
+"""Runs the programs on the cases of tests/row_data/*.cases, as many at a time as there are processors. Called by
+tests/rows.sh, which gives it the function `run_words` that runs the words of a command line.
 
 A case begins with its command line, and ends where the next one begins. The first characters of a line say what the
 line is:
 
   # TEXT        a comment
-  $ WORDS       the command line, as a shell would split it; the word FILE is the name of a file
+  $ WORDS       the command line, as a shell would split it; the first word is the name of the program, and the word
+                FILE is the name of a file
   @ LINE        a line of that file
   < LINE        a line of the input
   > LINE        a line of the output
@@ -83,8 +84,8 @@ class Script:
 
     def cases(self):
         """The run of the script, and the judgement of its history."""
-        run = Case(self.place, ["run", "--blocks", self.blocks])
-        judge = Case(self.place, ["judge", "--blocks", self.blocks])
+        run = Case(self.place, ["vacation", "run", "--blocks", self.blocks])
+        judge = Case(self.place, ["vacation", "judge", "--blocks", self.blocks])
         for number, (line, reply) in enumerate(self.calls):
             run.add("<", f"{line}\n")
             run.add(">", f"{reply}\n")

@@ -22,9 +22,14 @@ part() {
     if [ -f "$1/$2" ]; then echo "$1/$2"; else echo /dev/null; fi
 }
 
-# Runs the program on the words of a command line. (Exported, so that cases.py runs it too.)
-export built_program="$program"
-run_words() { timeout 60 "$built_program" "$@"; }
+# Runs the words of a command line, the name of a program and its words. (Exported: cases.py runs it too.)
+export built_vacation="$program"
+run_words() {
+    case "$1" in
+        vacation) timeout 60 "$built_vacation" "${@:2}" ;;
+        *) echo "rows: there is no program $1" >&2; return 127 ;;
+    esac
+}
 export -f run_words
 
 # Runs one row; says what differs.
@@ -37,7 +42,7 @@ run_row() {
     fi
     mapfile -t words < "$(part "$row" args)"
     [ ! -f "$row/status" ] || wanted="$(cat "$row/status")"
-    run_words "${words[@]}" < "$(part "$row" input)" \
+    run_words vacation "${words[@]}" < "$(part "$row" input)" \
         > "$work/output" 2> "$work/errors" || status=$?
     ! grep -qv '^warning: ' "$work/errors" || refused=1
     if [ "$status" != "$wanted" ]; then
