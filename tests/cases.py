@@ -8,6 +8,7 @@ line is:
   $ WORDS       the command line, as a shell would split it; the first word is the name of the program, and the word
                 FILE is the name of a file
   @ LINE        a line of that file
+  % W ..        a line of the input for each word; W*N is a word N times
   < LINE        a line of the input
   > LINE        a line of the output
   >* TEXT       the output goes on with this text, and then in any way
@@ -20,9 +21,9 @@ A '|' in place of the space after '<', '>', '!' or '@' says that the text does n
 lines that begin with '!', or none of them if they are '!|' alone. A case without these lines writes to standard error
 if its status is 2, and in no other case, but that a judge may warn of a log that shows little.
 
-A script is a case of its own form, for the rules of the system: its commands are run, which must give the replies, and
-then are judged as a history with these replies, which must be legal. (The one runs them over the transactional memory,
-the other on the sequential manager.)
+A script is a case of its own form, for the rules of the system. Its commands are run over the transactional memory,
+which must give the replies. With these replies they are a history, which must be legal for `judge`, over plain memory,
+and in order for `order`, on the sequential manager.
 
   & BLOCKS      a script for a system of so many blocks
   * LINE -> REPLY
@@ -52,6 +53,8 @@ ESCAPE = re.compile(r"\\(?:\{(?P<text>.*?)\*(?P<times>\d+)\}|(?P<letter>.))")
 LETTERS = {"t": "\t", "r": "\r", "s": " ", "\\": "\\"}
 WARNING = re.compile(rb"(warning: [^\n]*\n)*")
 MOST_SHOWN, MOST_BYTES = 10, 400
+# The commands that try a script.
+RUN, JUDGE, ORDER = ["vacation", "run"], ["vacation", "judge"], ["vacation", "order"]
 
 
 class BadCase(Exception):
@@ -83,16 +86,16 @@ class Script:
     calls: list = field(default_factory=list)
 
     def cases(self):
-        """The run of the script, and the judgement of its history."""
-        run = Case(self.place, ["vacation", "run", "--blocks", self.blocks])
-        judge = Case(self.place, ["vacation", "judge", "--blocks", self.blocks])
+        """The run of the script, and the judgements of its history."""
+        run, judge, order = (Case(self.place, [*words, "--blocks", self.blocks]) for words in (RUN, JUDGE, ORDER))
         for number, (line, reply) in enumerate(self.calls):
             run.add("<", f"{line}\n")
             run.add(">", f"{reply}\n")
-            judge.add("<", f"0 {number} {number} {line} -> {reply}\n")
+            for case, mark in ((judge, "<"), (order, "<"), (order, ">")):
+                case.add(mark, f"0 {number} {number} {line} -> {reply}\n")
         judge.add(">", f"legal calls={len(self.calls)} clients=1\n")
         judge.goes_on = True
-        return [run, judge]
+        return [run, judge, order]
 
 
 def unescaped(text):
@@ -124,6 +127,10 @@ def read_line(case, line):
     elif line.startswith(">* "):
         case.add(">", unescaped(line[3:]))
         case.goes_on = True
+    elif mark == "%":
+        for word in text.split():
+            word, _, times = word.partition("*")
+            case.add("<", f"{word}\n" * int(times or 1))
     elif mark == "=":
         case.status = int(line[1:])
     elif mark == "/":
