@@ -27,6 +27,24 @@ LONG = [
     ({"clients": 1, "tasks": 150, "items": 16384, "reads": 100, "blocks": 131072}, 3_000_000),
 ]
 
+# A load with one question, and its attempts with the times 0, by hand from the layout of the words: the roots are words
+# 1 to 4, the heads of the free lists words 8 to 15, and the blocks of eight words start at word 16, one in each of the
+# first four lists. An item takes its block from the first list that has one. The task asks for the free units of the
+# flight, which are the sixth word of its block.
+ONE_QUESTION = {"clients": 1, "tasks": 1, "items": 1, "reads": 100, "user": 50, "blocks": 4}
+ITS_ATTEMPTS = """\
+0 0 0 commit w 8 16 w 9 24 w 10 32 w 11 40
+0 0 0 commit r 1 0 r 8 16 r 16 0 w 8 0 w 16 1 w 20 0 w 21 300 w 22 300 w 23 80 r 1 0 w 17 0 \
+w 18 0 w 19 1 w 1 16 w 19 0
+0 0 0 commit r 2 0 r 8 0 r 9 24 r 24 0 w 9 0 w 24 1 w 28 0 w 29 200 w 30 200 w 31 90 r 2 0 \
+w 25 0 w 26 0 w 27 1 w 2 24 w 27 0
+0 0 0 commit r 3 0 r 8 0 r 9 0 r 10 32 r 32 0 w 10 0 w 32 1 w 36 0 w 37 400 w 38 400 w 39 90 \
+r 3 0 w 33 0 w 34 0 w 35 1 w 3 32 w 35 0
+0 0 0 commit r 4 0 r 8 0 r 9 0 r 10 0 r 11 40 r 40 0 w 11 0 w 40 1 w 44 0 r 45 0 r 46 0 \
+r 47 0 r 4 0 w 41 0 w 42 0 w 43 1 w 4 40 w 43 0
+1 0 0 commit r 2 24 r 24 1 r 29 200
+"""
+
 LOADS = [
     {"tasks": 200, "items": 16},
     {"tasks": 100, "items": 256, "user": 90, "reads": 50, "blocks": 16384},
@@ -125,6 +143,13 @@ def damaged(program, settings, lines, outcome):
          f"{settings}, damaged: {verdict}")
 
 
+def look_at_one_question(program):
+    """The whole text of a small load, but for its times."""
+    done = run(program, ONE_QUESTION, "--attempts", "--stats")
+    text = re.sub(r"^([0-9]+) [0-9]+ [0-9]+ ", r"\1 0 0 ", done.stdout, flags=re.M)
+    want(text == ITS_ATTEMPTS and TRIED.search(done.stderr)[1] == "1", f"{ONE_QUESTION}: {text!r}, {done.stderr!r}")
+
+
 def look_at_long_lines(program):
     """An attempt that reads all words of a table is a line that the judge takes."""
     for settings, least in LONG:
@@ -152,6 +177,7 @@ def main():
     want(given_up > 0, "no attempt of any load was given up after it had read")
     want(sum(BUSY) > 0, "no call of any load stayed busy")
     look_at_long_lines(program)
+    look_at_one_question(program)
     look_at(program, {"clients": 2, "tasks": 500, "items": 16}, "--progress")
     alone = {"clients": 1, "tasks": 300}
     plain, traced = run(program, alone), run(program, alone, "--attempts")

@@ -99,6 +99,8 @@ def main():
                 damaged(program, settings, history)
     both = {"clients": 2, "tasks": 500, "items": 16}
     look_at(program, both, "--stats", "--progress")
+    # clients that add units of few items, beside questions for them: no unit is lost
+    look_at(program, {"clients": 4, "tasks": 2000, "items": 4, "user": 0, "reads": 25, "tries": 1000})
     plain = run(program, {"clients": 1})
     want(TOLD.fullmatch(plain.stdout) and plain.stderr == "", f"without it: {plain}")
     short = run(program, {"clients": 1, "items": 300}, "--history")

@@ -39,6 +39,7 @@ def want(holds, what):
 
 ALONE = [
     {"clients": 1},
+    {"clients": 1, "tasks": 3, "items": 2, "user": 50},
     {"clients": 1, "tasks": 1000, "tries": 1},
     {"clients": 1, "tasks": 2000, "items": 2, "asks": 32, "user": 50, "seed": 7},
     {"clients": 1, "tasks": 3000, "items": 5, "asks": 3, "user": 90, "seed": 12, "blocks": 20},
@@ -53,6 +54,7 @@ ALONE = [
 
 TOGETHER = [
     {},
+    {"clients": 3, "tasks": 20, "rounds": 3},
     {"clients": 64, "tasks": 100},
     {"clients": 2, "tasks": 2000, "items": 1024, "blocks": 8192, "asks": 8, "user": 60},
     {"clients": 8, "tasks": 500, "items": 1, "asks": 2, "user": 70, "blocks": 8},

@@ -24,6 +24,8 @@ BAD = {
     "0 0 0 commit" + " w 1 1" * 11_184_809: "long-line",
 }
 WORDS = 5
+# The most bytes of a line.
+LONGEST = 67_108_864
 
 
 def digits(text, most_digits, most):
@@ -34,7 +36,7 @@ def digits(text, most_digits, most):
 
 def parse(line):
     """The attempt of a line, or the name of its fault."""
-    if len(line) > 67_108_864:
+    if len(line) > LONGEST:
         return "long-line"
     if any(not " " <= letter <= "~" for letter in line):
         return "bad-byte"
@@ -246,6 +248,13 @@ def place_texts():
     return texts
 
 
+def longest_texts():
+    """A line of the most bytes and one of a byte more, with their verdicts: leading zeros fill up the last value."""
+    for size, wanted in ((LONGEST, "opaque attempts=1 committed=0 clients=1\n"), (LONGEST + 1, "fault long-line 1\n")):
+        line = "0 0 0 abort" + " w 4 1" * ((size - 18) // 6) + " r 4 "
+        yield line + "1".rjust(size - len(line), "0"), wanted
+
+
 def name_of(verdict):
     """The first words of a verdict."""
     return " ".join(word for word in verdict.split()[:2] if "=" not in word)
@@ -259,6 +268,8 @@ def main():
     for text in texts:
         wanted = judge(text)
         found[name_of(wanted)] = found.get(name_of(wanted), 0) + 1
+        wrong += compare(program, text, wanted)
+    for text, wanted in longest_texts():
         wrong += compare(program, text, wanted)
     places = place_texts() if takes_places(program) else []
     for text in places:

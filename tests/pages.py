@@ -227,8 +227,11 @@ def holds_rules(crates):
 
 
 def holds_rows():
-    """The page that tells how many rows of data there are tells the number of their folders."""
-    rows = sum(folder.is_dir() for folder in (ROOT / "tests" / "row_data").iterdir())
+    """The page that tells how many worked examples of the program there are tells the number of their folders, and of
+    the cases in files."""
+    data = ROOT / "tests" / "row_data"
+    rows = sum(folder.is_dir() for folder in data.iterdir())
+    rows += sum(len(re.findall(r"^[$&] ", cases.read_text(), flags=re.M)) for cases in data.glob("*.cases"))
     page = ROOT / "docs" / "GATE.md"
     if re.findall(r"\| (\d+) worked examples \|", page.read_text()) != [str(rows)]:
         fault(page, f"tests/row_data has {rows} worked examples")

@@ -1,10 +1,10 @@
 #!/usr/bin/env bash
-# Runs the program on each row of tests/row_data, and compares what it writes and its status with
-# what the row says. A row is a folder of files: 'args', one word a line; 'input'; 'output'; and
-# 'status'. A file that is not there is empty, and the status is then 0. A row is added by adding
-# its folder; one with a file of another name fails. Text on standard error is wanted if the command line is
-# refused, status 2, and in no other case, but that a judge may warn of a log that shows little. The argument is the program, a file that is built already; with none it is the one
-# that the repository's last build left.
+# Runs the program on each row of tests/row_data, and compares what it writes and its status with what the row says. A
+# row is a folder of files: 'args', one word a line; 'input'; 'output'; and 'status'. A file that is not there is empty,
+# and the status is then 0. A row is added by adding its folder; one with a file of another name fails. Many small rows
+# are one file NAME.cases, which tests/cases.py reads. Text on standard error is wanted if the command line is refused,
+# status 2, and in no other case, but that a judge may warn of a log that shows little. The argument is the program, a
+# file that is built already; with none it is the one that the repository's last build left.
 set -euo pipefail
 export LC_ALL=C
 tests="$(dirname "$(readlink -f "${BASH_SOURCE[0]}")")"
@@ -22,6 +22,16 @@ part() {
     if [ -f "$1/$2" ]; then echo "$1/$2"; else echo /dev/null; fi
 }
 
+# Runs the words of a command line, the name of a program and its words. (Exported: cases.py runs it too.)
+export built_vacation="$program"
+run_words() {
+    case "$1" in
+        vacation) timeout 60 "$built_vacation" "${@:2}" ;;
+        *) echo "rows: there is no program $1" >&2; return 127 ;;
+    esac
+}
+export -f run_words
+
 # Runs one row; says what differs.
 run_row() {
     local row="$1" words=() status=0 wanted=0 refused=0 complains=0 other
@@ -32,7 +42,7 @@ run_row() {
     fi
     mapfile -t words < "$(part "$row" args)"
     [ ! -f "$row/status" ] || wanted="$(cat "$row/status")"
-    timeout 60 "$program" "${words[@]}" < "$(part "$row" input)" \
+    run_words vacation "${words[@]}" < "$(part "$row" input)" \
         > "$work/output" 2> "$work/errors" || status=$?
     ! grep -qv '^warning: ' "$work/errors" || refused=1
     if [ "$status" != "$wanted" ]; then
@@ -62,4 +72,5 @@ if [ "$rows" = 0 ]; then
     exit 1
 fi
 echo "rows: $((rows - failed)) of $rows rows are as they should be"
+python3 "$tests/cases.py" || failed=$((failed + 1))
 [ "$failed" = 0 ]

@@ -24,8 +24,11 @@ struct Row {
 /// A history of one call.
 const HISTORY: &[u8] = b"1 0 5 newcust 1 -> true\n";
 
+/// A history whose calls concern two customers.
+const CALLS: &[u8] = b"1 0 5 newcust 3 -> true\n2 1 6 newcust 4 -> true\n1 7 9 leave 3 -> 0\n";
+
 /// Command lines that write nothing before they have read their input.
-const ROWS: [Row; 3] = [
+const ROWS: [Row; 4] = [
     Row {
         words: &["vacation", "judge"],
         input: HISTORY,
@@ -45,6 +48,12 @@ const ROWS: [Row; 3] = [
         output: b"cars=1 flights=0 rooms=0 customers=0 bookings=0 \
             used=0 free=100 total=100 billed=0\n",
         first: b"cars=1 ",
+    },
+    Row {
+        words: &["vacation", "part", "--customer", "3"],
+        input: CALLS,
+        output: b"1 0 5 newcust 3 -> true\n1 7 9 leave 3 -> 0\n",
+        first: b"1 0 5 n",
     },
 ];
 

@@ -1,8 +1,8 @@
-//! Tests of the load, of the program's calls and of the judges. The tests run scripts, dumps,
-//! checks and command lines over input and output that fail. They check histories against
-//! workloads, drawn tasks, loads of one client, loads of several clients that meet, loads with
-//! memory refused, the times of a history, and the text of attempts. Verdicts and linearizations
-//! were worked out by hand.
+//! Tests of the load and of the program's calls. The tests run scripts, dumps, checks and command
+//! lines over input and output that fail. They check the searches for an order, drawn tasks, loads
+//! of one client, loads of several clients that meet, loads with memory refused, the times of a
+//! history, and the text of attempts. Replies and verdicts of the program are asked by
+//! `tests/rows.sh`.
 #![tactic(auto)]
 
 #[cfg(test)]
@@ -24,8 +24,6 @@ mod faults;
 #[cfg(test)]
 mod gates;
 #[cfg(test)]
-mod held_work;
-#[cfg(test)]
 mod loading;
 #[cfg(test)]
 mod loads;
@@ -33,8 +31,6 @@ mod loads;
 mod loops;
 #[cfg(test)]
 mod meetings;
-#[cfg(test)]
-mod opacity;
 #[cfg(test)]
 mod orders;
 #[cfg(test)]
@@ -50,8 +46,6 @@ mod stamps;
 #[cfg(test)]
 mod streams;
 #[cfg(test)]
-mod texts;
-#[cfg(test)]
-mod verdicts;
+mod watching;
 #[cfg(test)]
 mod work;

@@ -54,17 +54,6 @@ pub(crate) fn load_of_zeros<R: Threads + Wait + AllocGlobal>(
     load_with(rt, settings, FixedDraws(0), clients)
 }
 
-/// Runs a load whose words are drawn from the seed of its settings, and returns its report.
-pub(crate) fn seeded_load<R: Threads + Wait + Abort + AllocGlobal>(
-    rt: &R,
-    settings: &Settings,
-) -> LoadReport {
-    let Ok(loaded) = load_of_seed(rt, settings) else {
-        panic!(rt; "the load stopped")
-    };
-    loaded
-}
-
 /// Runs a load of these clients, whose setup phase draws only zeros, and returns its report.
 pub(crate) fn gated_load<R: Threads + Wait + Abort + AllocGlobal, G: Gate + Send + Drop>(
     rt: &R,

@@ -1,12 +1,11 @@
 //! Loads of one client, and arguments that are refused.
 
-use crate::loading::{load_of_seed, load_of_zeros, load_with, seeded_load};
+use crate::loading::{load_of_seed, load_of_zeros, load_with};
 use crate::same::same;
 use crate::small_load::{SETTINGS, THREE_TRIPS, all_answered, spent_at};
 use load_run::{LoadFault, LoadReport};
 use load_tasks::{FixedDraws, MOST_ROUNDS, Settings};
 use stm_attempt::NoGate;
-use vac_model::Report;
 
 #[test]
 fn trips_of_one_client(rt: HostRuntime) {
@@ -15,40 +14,6 @@ fn trips_of_one_client(rt: HostRuntime) {
         report: THREE_TRIPS,
     };
     same(&rt, &load_of_zeros(&rt, &SETTINGS), &Ok(wants));
-}
-
-#[test]
-fn three_tasks_of_a_seed(rt: HostRuntime) {
-    let report = Report {
-        cars: 2,
-        flights: 2,
-        rooms: 2,
-        customers: 1,
-        bookings: 1,
-        used: 1,
-        free: 1599,
-        total: 1600,
-        billed: 90,
-    };
-    let wants = LoadReport {
-        outcomes: all_answered(3),
-        report,
-    };
-    same(&rt, &seeded_load(&rt, &SETTINGS), &wants);
-}
-
-#[test]
-fn one_client_asks_a_thousand_times(rt: HostRuntime) {
-    let settings = Settings {
-        tasks: 1_000,
-        tries: 1,
-        items: 16,
-        user: 80,
-        ..SETTINGS
-    };
-    let LoadReport { outcomes, report } = seeded_load(&rt, &settings);
-    same(&rt, &outcomes, &all_answered(1_000));
-    same(&rt, &report.used, &report.bookings);
 }
 
 /// Returns the version at which the setup phase found the clock spent, if that ended the load.

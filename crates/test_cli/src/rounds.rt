@@ -1,7 +1,7 @@
 //! Loads of several rounds, each on a new clock.
 ghost use Rattle.std.specs.Prelude.{◌≡◌};
 
-use crate::loading::{load_of_zeros, load_with, seeded_load};
+use crate::loading::{load_of_zeros, load_with};
 use crate::same::same;
 use crate::small_load::{SETTINGS, SIX_TRIPS, all_answered};
 use load_run::{LoadFault, LoadReport, Outcomes};
@@ -125,19 +125,4 @@ fn draws_and_gates_go_on_from_round_to_round(rt: HostRuntime) {
     let in_rounds = counted(&rt, &rounds);
     same(&rt, &in_rounds, &counted(&rt, &one_round));
     same(&rt, &in_rounds.2, &20);
-}
-
-#[test]
-fn several_clients_in_several_rounds(rt: HostRuntime) {
-    let settings = Settings {
-        clients: 3,
-        tasks: 20,
-        items: 16,
-        user: 80,
-        rounds: 3,
-        ..SETTINGS
-    };
-    let LoadReport { outcomes, report } = seeded_load(&rt, &settings);
-    let ended = outcomes.answered.saturating_add(outcomes.busy);
-    same(&rt, &(ended, report.used), &(180, report.bookings));
 }

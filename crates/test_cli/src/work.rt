@@ -1,4 +1,4 @@
-//! Histories that are checked against the tasks in a file.
+//! Histories that are checked against the tasks in a file, over files and streams that fail.
 
 use crate::command_lines::{Ended, run_line};
 use crate::failing::{NEVER, Pieces, Sink, Stop};
@@ -37,10 +37,6 @@ impl Open for Shelf {
 /// A history of one call.
 const HISTORY: &[u8] = b"1 0 5 newcust 1 -> true\n";
 
-/// The judge's output for `HISTORY` if the history is complete.
-const WHOLE: &[u8] = b"legal calls=1 clients=1\ncars=0 flights=0 rooms=0 customers=1 bookings=0 \
-    used=0 free=0 total=0 billed=0\n";
-
 /// Judges a history against the tasks in the file of this name.
 fn judge<T: Threads + Wait + Clock + Sync + Abort + AllocGlobal, R: Read, W: Write>(
     rt: &T,
@@ -51,92 +47,6 @@ fn judge<T: Threads + Wait + Clock + Sync + Abort + AllocGlobal, R: Read, W: Wri
 ) -> Ended {
     let words = &["vacation", "judge", "--tasks", name];
     run_line(rt, files, words, input, output)
-}
-
-/// Tasks in the file, a history, the judge's status, and its output.
-const AGAINST_WORK: [(&[u8], &[u8], u8, &[u8]); 6] = [
-    (b"1 newcust 1\n", HISTORY, 0, WHOLE),
-    (
-        b"1 newcust 1\n1 audit\n",
-        HISTORY,
-        1,
-        b"illegal missing 1 2\n",
-    ),
-    (b"1 newcust 1\n", b"", 1, b"illegal missing 1 1\n"),
-    (b"", HISTORY, 1, b"illegal task 1\n"),
-    (b"1 newcust 2\n", HISTORY, 1, b"illegal task 1\n"),
-    (b"1 newcust\n", HISTORY, 1, b"fault bad-tasks 1\n"),
-];
-
-#[test]
-fn histories_against_work(rt: HostRuntime) {
-    for (bytes, history, status, output) in AGAINST_WORK {
-        let files = Shelf {
-            bytes,
-            fails_at: NEVER,
-            missing: ErrorKind::NotFound,
-        };
-        let mut input = history;
-        let mut out = Sink::new(rt.alloc(), NEVER, NEVER, Stop::Nothing);
-        let ended = judge(&rt, &files, NAME, &mut input, &mut out);
-        let found = (ended, out.taken.as_slice(), out.is_flushed);
-        same(&rt, &found, &((status, true), output, true));
-    }
-}
-
-/// Tasks in the file, a history, the status of the judge in any order, and its output. Lines are
-/// those of the history, and a call that the order leaves out is told apart from a missing task.
-const IN_ANY_ORDER: [(&[u8], &[u8], u8, &[u8]); 7] = [
-    (b"1 newcust 1\n", HISTORY, 0, WHOLE),
-    (
-        b"1 newcust 1\n2 bill 1\n",
-        b"2 3 9 bill 1 -> 0\n1 0 5 newcust 1 -> true\n",
-        0,
-        b"legal calls=2 clients=2\ncars=0 flights=0 rooms=0 customers=1 bookings=0 used=0 free=0 \
-            total=0 billed=0\n",
-    ),
-    (
-        b"1 newcust 1\n2 bill 1\n",
-        b"2 3 9 bill 2 -> -1\n1 0 5 newcust 1 -> true\n",
-        1,
-        b"illegal task 1\n",
-    ),
-    (
-        b"1 newcust 1\n2 bill 1\n",
-        b"2 6 - bill 1 -> ?\n1 0 5 newcust 1 -> true\n",
-        1,
-        b"illegal pending 1\n",
-    ),
-    (
-        b"1 newcust 1\n2 bill 1\n",
-        HISTORY,
-        1,
-        b"illegal missing 2 1\n",
-    ),
-    (b"1 newcust\n", HISTORY, 1, b"fault bad-tasks 1\n"),
-    (
-        b"1 newcust 1\n",
-        b"1 0 5 bill 1 -> 7\n",
-        1,
-        b"illegal part 1 customer 1\nstuck 1 -1\nstates 1\n",
-    ),
-];
-
-#[test]
-fn histories_in_any_order_against_work(rt: HostRuntime) {
-    for (bytes, history, status, output) in IN_ANY_ORDER {
-        let files = Shelf {
-            bytes,
-            fails_at: NEVER,
-            missing: ErrorKind::NotFound,
-        };
-        let mut input = history;
-        let mut out = Sink::new(rt.alloc(), NEVER, NEVER, Stop::Nothing);
-        let words = &["vacation", "judge", "--any-order", "--tasks", NAME];
-        let ended = run_line(&rt, &files, words, &mut input, &mut out);
-        let found = (ended, out.taken.as_slice(), out.is_flushed);
-        same(&rt, &found, &((status, true), output, true));
-    }
 }
 
 /// The name of the file, the read of the file that fails, the error of opening other files, the

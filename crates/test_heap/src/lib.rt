@@ -1,16 +1,12 @@
-//! Tests of the structures in words over plain memory and of the walks over them: blocks, lists of
-//! bookings, tables, the records in them, reports, audits and tasks, with words and answers that
-//! were worked out by hand.
+//! Tests of the structures in words over plain memory: blocks, lists of bookings, tables, the
+//! records in them, and reports, with words and answers that were worked out by hand. Audits of
+//! words, and tasks over plain memory, are asked by `tests/rows.sh` and `tests/check.py`.
 #![tactic(auto)]
 
 #[cfg(test)]
 mod blocks;
 #[cfg(test)]
 mod bookings;
-#[cfg(test)]
-mod growing;
-#[cfg(test)]
-mod heap;
 #[cfg(test)]
 mod records;
 #[cfg(test)]
@@ -21,9 +17,3 @@ mod shapes;
 mod steps;
 #[cfg(test)]
 mod tables;
-#[cfg(test)]
-mod tasks;
-#[cfg(test)]
-mod trips;
-#[cfg(test)]
-mod walks;

@@ -1,7 +1,7 @@
-//! Tests of the reservation crates: scripts with worked replies, clients over a region, and random
-//! tasks beside the plain manager. The replies of scripts were worked out by hand from the rules
-//! (`docs/RULES.md`). The clients conflict, come and go, and call from threads. The plain manager
-//! is proved to satisfy its definition; these tests show that the definition is the intended one.
+//! Tests of the reservation crates: clients over a region, and random tasks beside the plain
+//! manager. The clients conflict, come and go, and call from threads. Scripts whose replies were
+//! worked out by hand from the rules (`docs/RULES.md`) are run by `tests/rows.sh`: over a region,
+//! over plain memory and on the plain manager.
 #![tactic(auto)]
 
 #[cfg(test)]
@@ -37,8 +37,6 @@ mod refused;
 #[cfg(test)]
 mod renewals;
 #[cfg(test)]
-mod rules;
-#[cfg(test)]
 mod same;
 #[cfg(test)]
 mod scripts;
@@ -46,7 +44,3 @@ mod scripts;
 mod spent;
 #[cfg(test)]
 mod states;
-#[cfg(test)]
-mod tasks;
-#[cfg(test)]
-mod threads;

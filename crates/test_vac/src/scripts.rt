@@ -1,17 +1,12 @@
-//! Scripts of tasks and replies, run on a new plain manager and on a new manager over a region.
+//! Scripts of tasks and replies.
 
 use std::alloc::{AllocError, Global};
-use std::process::Abort;
-use vac_manager::{Manager, call};
 use vac_model::{Command, Kind, Reply, Task};
-use vac_sequential::Sequential;
 
 /// One line of a script.
 #[derive(Clone, Copy)]
 pub(crate) enum Line<'a> {
     One(Command),
-    /// A command that is repeated this many times, each time with the same reply.
-    Times(u32, Command),
     Trip(u32, &'a [(Kind, u32)]),
     Leave(u32),
     Update(&'a [Command]),
@@ -22,7 +17,7 @@ pub(crate) type Answered = (Line<'static>, Reply);
 
 pub(crate) fn task_of(alloc: Global, line: &Line<'_>) -> Result<Task, AllocError> {
     match line {
-        Line::One(command) | Line::Times(_, command) => Ok(Task::One(*command)),
+        Line::One(command) => Ok(Task::One(*command)),
         Line::Trip(customer, asks) => Task::trip(alloc, *customer, asks),
         Line::Leave(customer) => Ok(Task::Leave {
             customer: *customer,
@@ -33,28 +28,6 @@ pub(crate) fn task_of(alloc: Global, line: &Line<'_>) -> Result<Task, AllocError
 
 /// The largest last version.
 pub(crate) const LAST: u64 = (1 << 62) - 1;
-
-/// Runs a script on a new plain manager of `blocks` blocks, and as transactions of one client over
-/// a region. Compares each reply.
-pub(crate) fn play(rt: &impl Abort, alloc: Global, blocks: u32, script: &[(Line<'_>, Reply)]) {
-    let mut manager = Sequential::new(alloc, blocks).expect(rt, "the blocks are in range");
-    let opened = Manager::new(alloc, blocks, LAST);
-    let (shared, client) = opened.expect(rt, "the blocks are in range");
-    let mut caller = shared.caller(client);
-    for (at, (line, want)) in script.iter().enumerate() {
-        let task = task_of(alloc, line).expect(rt, "there is memory");
-        let times = match line {
-            Line::Times(times, _) => *times,
-            _ => 1,
-        };
-        for _ in 0..times {
-            let reply = manager.run(&task).expect(rt, "the task is in range");
-            assert_eq!(rt; reply, *want, "at line {at}");
-            let answer = call(&mut caller, &task, 1);
-            assert!(rt; answer == Ok(*want), "over a region, at line {at}");
-        }
-    }
-}
 
 // Commands, lines and replies are written by macros. In a script that is made of calls, the prover
 // would carry the facts of each call through the whole test.
