@@ -4,11 +4,10 @@ use Rattle.std.proofs.Common.{List, [], ◌∷◌, ◌++◌, length, map, Option
 use Rattle.std.proofs.Common.{refl, sym, ap, subst, ◌∙◌, inl, inr, arith, append-nil, append_assoc, length-append, eqb}
 use Rattle.std.proofs.Common.{ne_eqb, nat_le}
 use Rattle.std.specs.Ordering.{nat_cmp, eq_by_cmp}
-use Rattle.std.specs.FinMap.{FinMap, get, insert, remove, empty, get-empty, get-insert, get-remove}
+use Rattle.std.specs.FinMap.{FinMap, get, insert, remove, empty, get-empty, get-remove}
 use Rattle.std.specs.Global.{Vec}
 use Rattle.std.proofs.lemmas.Cmp.{nat_cmp_total}
 use Rattle.std.proofs.lemmas.Bool.Decides.{nat_tests}
-use Rattle.tx_memory.specs.Seen.{same_or}
 use Rattle.vac_model.specs.declared.tasks.Task.{Task}
 use Rattle.vac_lines.specs.Lines.{lines_of, HasNo}
 use Rattle.vac_lines.proofs.LineCuts.{HasNoEnd, lines_cut, lines_last}
@@ -18,6 +17,8 @@ use Rattle.judge_calls.specs.declared.work.Workload.{Workload}
 use Rattle.judge_calls.specs.declared.holding.CallCount.{CallCount}
 use Rattle.judge_calls.specs.declared.holding.CallCounts.{CallCounts}
 use Rattle.judge_object.specs.Call.{is_completed}
+use Rattle.judge_object.proofs.Maps.{get_here, get_other}
+use Rattle.judge_object.proofs.Tests as tests
 use Rattle.judge_calls.specs.Call.{Call, line_call, joined_words}
 use Rattle.judge_calls.specs.Work.{Asked, words_asked, text_asked, line_asked, onto_work, work_of, tasks_of, made_by}
 use Rattle.judge_calls.specs.Work.{has_stopped, is_next, first_foreign, calls_in, is_missing, first_missing}
@@ -52,16 +53,6 @@ asked_none line h = ap words_asked (one_word line h)
 
 -- ---- values by clients
 
-pub get_here : {X : Type 0} (m : FinMap nat_cmp X) (a : ℕ) (v : X) → get (insert m a v) a ≡ Some v
-get_here m a v =
-    let t : eq_by_cmp nat_cmp a a ≡ true = grind (arith, nat_tests) in
-    rw (get-insert nat_cmp_total m a v a, t) refl
-
-pub get_other : {X : Type 0} (m : FinMap nat_cmp X) (a : ℕ) (v : X) (b : ℕ) → b ≢ a → get (insert m a v) b ≡ get m b
-get_other m a v b ne =
-    let t : eq_by_cmp nat_cmp b a ≡ false = grind (arith, nat_tests) in
-    rw (get-insert nat_cmp_total m a v b, t) refl
-
 pub get_left : {X : Type 0} (m : FinMap nat_cmp X) (a b : ℕ) → b ≢ a → get (remove m a) b ≡ get m b
 get_left m a b ne =
     let t : eq_by_cmp nat_cmp b a ≡ false = grind (arith, nat_tests) in
@@ -73,9 +64,9 @@ Test a b = ((a == b) ≡ true × (a ≡ b)) ⊎ ((a == b) ≡ false × (b ≢ a)
 
 pub test : (a b : ℕ) → Test a b
 test a b =
-    elim (same_or a b) [
-      | inl e ↦ inl (let t : (a == b) ≡ true = grind (arith, nat_tests) in t, e)
-      | inr n ↦ inr (let t : (a == b) ≡ false = grind (arith, nat_tests) in t, λ e. n (sym e))
+    elim (tests.test a b) [
+      | inl same ↦ inl same
+      | inr other ↦ inr (other.0, λ e. other.1 (sym e))
     ]
 
 -- ---- work

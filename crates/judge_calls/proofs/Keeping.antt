@@ -15,6 +15,13 @@ use Rattle.judge_calls.specs.Order.{call_breaks_client, call_breaks_time, wrong_
 use Rattle.vac_lines.specs.Text.{is_right}
 use Rattle.judge_calls.specs.Judging.{TimesSay, JudgesTimes}
 
+-- a step from an equal state leaves the same state and gives the same reply
+pub stepped : {S R : Type 0} (step : S → S × R) (before s after : S) (reply : R) → step before ≡ (after, reply) →
+    before ≡ s → ((step s).0 ≡ after) × ((step s).1 ≡ reply)
+stepped step before s after reply e is =
+    let made : step s ≡ (after, reply) = ap step (sym is) ∙ e in
+    (ap (λ p. p.0) made, ap (λ p. p.1) made)
+
 -- what is wrong with the place of a call is wrong with the call
 abbrev pub as_wrong : Option Misplaced → Option CallViolation
 as_wrong None = None

@@ -14,12 +14,11 @@ use Rattle.judge_calls.specs.Call.{Call}
 use Rattle.judge_object.specs.Call.{span_of}
 use Rattle.judge_calls.specs.Order.{call_breaks_client, call_breaks_time, wrong_of}
 use Rattle.judge_calls.specs.Verdict.{judged}
-use Rattle.vac_tasks.specs.PlainState.{IsStateOf}
 use Rattle.std.specs.Prelude.{true, false}
 
 -- the judge has judged these calls, and they leave the state s
 pub record Follows (judge : Judge) (s : State) (earlier : List Call) : Type 0 where
-  pub heap : IsStateOf judge.heap s
+  pub state : judge.manager ≡ s
   pub spans : Keeps judge.spans (map span_of earlier)
 
 -- the result of checking the times of a call agrees with two tests: whether the call breaks the

@@ -3,6 +3,7 @@
 ghost use Rattle.std.specs.Prelude.{◌≡◌, ◌≢◌, ◌≤◌, ◌<◌, ◌^◌, ◌+◌, IfOk, IfErr, MatchOption, List, [], true, Err};
 ghost use Rattle.std.specs.Option.{option_copied};
 ghost use Rattle.vac_model.specs.Ranges.{is_task};
+ghost use Rattle.vac_model.specs.Run as tasks;
 ghost use Rattle.vac_model.specs.State.{State, empty_state};
 ghost use Rattle.vac_lines.specs.Text.{is_right};
 ghost use Rattle.judge_calls.specs.Call.{Call, line_call};
@@ -17,22 +18,50 @@ use crate::fault::CallFault;
 use crate::verdict::{CallViolation, Summary, Verdict};
 use judge_object::{Misplaced, Spans};
 use std::alloc::{AllocError, Global};
-use tx_alloc::FreeList;
+use std::mem::replace;
 use vac_lines::{LineFault, StreamFault, is_text_of};
-use vac_model::Reply;
 use vac_model::limits::MOST_BLOCKS;
-use vac_tasks::Heap;
+use vac_model::{Reply, Task};
+use vac_sequential::{Sequential, SequentialFault};
 
 /// A judge of a history that is given line by line: the state that the calls so far leave, and the
 /// data by which the order of the next call is judged.
 ///
-/// A judge keeps the memory of the state and one number for each client, and nothing of the calls.
+/// A judge keeps the state and one number for each client, and nothing of the calls.
 #[derive(Drop)]
 pub struct Judge {
-    heap: Heap,
+    manager: Sequential,
     spans: Spans,
     /// Buffer for the text of the last expected reply.
     expected: Vec<u8>,
+}
+
+/// Returns the plain manager of a system of `blocks` blocks, without entries.
+fn empty_manager(alloc: Global, blocks: u32) -> Sequential
+    requires some { 1 ≤ blocks }
+    requires most { blocks ≤ MOST_BLOCKS }
+    ensures { result ≡ empty_state blocks }
+{
+    match Sequential::new(alloc, blocks) {
+        Ok(manager) => manager,
+        Err(_) => unreachable!(),
+    }
+}
+
+/// Runs a task in place, and returns its reply. If memory is refused, the state is lost.
+fn run_in_place(manager: &mut Sequential, alloc: Global, task: &Task) -> Result<Reply, AllocError>
+    requires in_range { is_task task.now ≡ true }
+    ensures ran { IfOk result (λ reply. tasks.run manager.old task.now ≡ (manager.new, reply)) }
+{
+    let before = replace(manager, empty_manager(alloc, 1));
+    match before.after(task) {
+        Ok((after, reply)) => {
+            *manager = after;
+            Ok(reply)
+        }
+        Err(SequentialFault::Memory) => Err(AllocError),
+        Err(SequentialFault::Arguments) => unreachable!(),
+    }
 }
 
 /// Returns whether the reply of a call is the expected one. If the reply of the call is not known,
@@ -65,17 +94,16 @@ fn own_fault(fault: CallFault) -> Result<CallFault, StreamFault>
 
 impl Judge {
     /// Creates a judge of a history without calls, for a system of `blocks` blocks.
-    pub fn new(alloc: Global, blocks: u32) -> Result<Judge, StreamFault>
+    pub fn new(alloc: Global, blocks: u32) -> Judge
         requires some { 1 ≤ blocks }
         requires most { blocks ≤ MOST_BLOCKS }
-        ensures empty { IfOk result (λ judge. Follows judge (empty_state blocks) []) }
-        ensures refused { IfErr result (λ fault. fault ≡ StreamFault.Memory) }
+        ensures { Follows result (empty_state blocks) [] }
     {
-        Ok(Judge {
-            heap: Heap::new(alloc, blocks)?,
+        Judge {
+            manager: empty_manager(alloc, blocks),
             spans: Spans::new(alloc),
             expected: Vec::new(alloc),
-        })
+        }
     }
 
     /// Returns the number of the next line.
@@ -103,7 +131,11 @@ impl Judge {
     }
 
     /// Judges a call, and takes the call if it has no fault.
-    fn judge_call(&mut self, call: &CallLine<'_>) -> Result<Option<CallViolation>, AllocError>
+    fn judge_call(
+        &mut self,
+        alloc: Global,
+        call: &CallLine<'_>,
+    ) -> Result<Option<CallViolation>, AllocError>
         requires in_range { is_task call.now.task ≡ true }
         requires room { self.old.spans.count + 1 < 2 ^ 64 }
         ensures { IfOk result (λ found. (s : State) (earlier : List Call) →
@@ -113,7 +145,7 @@ impl Judge {
         if let Some(wrong) = self.judge_times(call) {
             return Ok(Some(wrong));
         }
-        let reply = self.heap.run(&call.task, FreeList::new(0));
+        let reply = run_in_place(&mut self.manager, alloc, &call.task)?;
         if !is_expected(&mut self.expected, call.reply, &reply)? {
             return Ok(Some(CallViolation::Reply(reply)));
         }
@@ -127,8 +159,8 @@ impl Judge {
     ///
     /// After a verdict or a fault, the judge must not be used for further lines.
     ///
-    /// Not said: that the judge keeps no more than the heap, one number for each client and a
-    /// reply, which is read in the code.
+    /// Not said: that the judge keeps no more than the entries of the state, one number for each
+    /// client and a reply, which is read in the code.
     pub fn judge_line(&mut self, alloc: Global, text: &[u8]) -> Result<Option<Verdict>, StreamFault>
         ensures judged { IfOk result (λ found. MatchOption found
             (Takes self.old self.new (line_call text.now))
@@ -137,7 +169,7 @@ impl Judge {
     {
         let line = self.number()?;
         match read_call(alloc, text) {
-            Ok(call) => match self.judge_call(&call)? {
+            Ok(call) => match self.judge_call(alloc, &call)? {
                 Some(wrong) => Ok(Some(Verdict::Illegal { line, wrong })),
                 None => Ok(None),
             },
@@ -162,15 +194,14 @@ impl Judge {
     }
 
     /// Returns the summary of the calls judged so far.
-    pub fn summary(&mut self) -> Summary
-        ensures same { self.new ≡ self.old }
-        ensures summary { (s : State) (earlier : List Call) → Follows self.old s earlier →
+    pub fn summary(&self) -> Summary
+        ensures { (s : State) (earlier : List Call) → Follows self.now s earlier →
             result ≡ summary_of s earlier }
     {
         Summary {
             calls: self.spans.count(),
             clients: self.spans.clients(),
-            report: self.heap.report(),
+            report: self.manager.report(),
         }
     }
 }

@@ -4,9 +4,9 @@
 //! A history is a text of lines `CLIENT BEGIN END LINE -> REPLY`, or `CLIENT BEGIN - LINE -> ?`
 //! for a pending call, in the order in which the runtime claims that the calls took effect. A line
 //! `CLIENT BEGIN - LINE -> REPLY` holds an undetermined call: a pending call that took effect with
-//! this reply, or never took effect. The tasks are run over plain memory, one after the other in
-//! the order of the lines. So an undetermined call took effect if it has a line here, and must have
-//! its reply.
+//! this reply, or never took effect. The plain manager runs the tasks, one after the other in the
+//! order of the lines. So an undetermined call took effect if it has a line here, and must have its
+//! reply.
 #![tactic(auto)]
 
 mod answers;

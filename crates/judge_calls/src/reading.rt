@@ -64,7 +64,7 @@ pub(crate) fn judge_input<R: Read>(
 {
     let mut history = History {
         alloc,
-        judge: Judge::new(alloc, blocks)?,
+        judge: Judge::new(alloc, blocks),
         found: None,
     };
     match read_lines(alloc, CALL_BYTES, input, &mut history, &mut ())? {

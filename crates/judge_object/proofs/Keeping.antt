@@ -7,13 +7,13 @@ use Rattle.std.specs.FinMap.{FinMap, get, insert, len, empty, get-empty, len-emp
 use Rattle.std.proofs.lemmas.Cmp.{nat_cmp_total}
 use Rattle.std.proofs.lemmas.Bool.{cases_lt}
 use Rattle.std.proofs.lemmas.Bool.Decides.{nat_tests}
-use Rattle.tx_memory.specs.Seen.{get_here, get_other}
 use Rattle.judge_object.specs.declared.span.Span.{Span}
 use Rattle.judge_object.specs.declared.span.Misplaced.{Misplaced}
 use Rattle.judge_object.specs.declared.span.Misplaced.TheVariants.{Client, Time}
 use Rattle.judge_object.specs.declared.spans.Spans.{Spans}
 use Rattle.judge_object.specs.Order.{itself, same_client, overlaps, ended_before, breaks_client, breaks_time, misplaced}
 use Rattle.judge_object.specs.Keeping.{end_of, latest_of, IsSpanBehind, EachSpan, SpansAreInTurn, Keeps}
+use Rattle.judge_object.proofs.Maps.{get_here, get_other}
 use Rattle.judge_object.proofs.Tests.{both_false, false_both, turn_from, turn_test, test}
 
 or_true : (a b : Bool) → b ≡ true → (a || b) ≡ true

@@ -1,5 +1,6 @@
 pub mod Trees
 pub mod Tests
+pub mod Maps
 pub mod Keeping
 pub mod Order
 pub mod Merges

@@ -16,13 +16,15 @@ use crate::plan::Plan;
 use crate::rounds::Round;
 use crate::slots::{Recorders, Slot, recorders_of, slots_by_seed};
 use crate::{AttemptStatistics, Outcomes, open_kept};
-use load_tasks::{Draws, PcgDraws, Settings};
+use load_tasks::{Draws, PcgDraws, Settings, VERSION_LIMIT};
 use std::alloc::Global;
 use std::sync::Wait;
 use std::thread::Threads;
 use stm_attempt::Gate;
 use thiserror::Error;
 use vac_manager::{Client, Fault, Manager, Recorder, Report, report_of};
+
+const _: () = prove!(VERSION_LIMIT == stm_core::VERSION_LIMIT);
 
 /// The result of a load: the counts of its tasks over all rounds, and the report of the words
 /// after all clients were gathered for the last time.

@@ -1,11 +1,11 @@
 -- The settings with which a load can be run.
 use Rattle.std.specs.Prelude.{◌*◌, Bool, ◌&&◌, nat_le, nat_lt}
-use Rattle.stm_core.specs.declared.version.TheConstants.{VERSION_LIMIT}
 use Rattle.vac_model.specs.Amounts.{is_list_length}
 use Rattle.vac_model.specs.declared.limits.TheConstants.{MOST_BLOCKS, MOST_TRIES}
 use Rattle.load_tasks.specs.declared.settings.Settings.{Settings}
 use Rattle.load_tasks.specs.declared.settings.TheConstants.{MOST_CLIENTS, MOST_TASKS, MOST_ITEMS}
 use Rattle.load_tasks.specs.declared.settings.TheConstants.{PERCENT, MOST_ROUNDS, BLOCKS_OF_ITEM}
+use Rattle.load_tasks.specs.declared.settings.TheConstants.{VERSION_LIMIT}
 
 -- true if the numbers of clients, rounds and tasks are in their ranges
 abbrev pub is_work : Settings → Bool

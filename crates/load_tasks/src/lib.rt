@@ -24,6 +24,7 @@ pub use opening::draw_stock;
 pub use opening_lines::OPENING;
 pub use settings::{
     BLOCKS_OF_ITEM, MOST_CLIENTS, MOST_ITEMS, MOST_ROUNDS, MOST_TASKS, PERCENT, Settings,
+    VERSION_LIMIT,
 };
 pub use tasks::{draw_task, turns_make_tasks};
 pub use worklist::write_tasks;

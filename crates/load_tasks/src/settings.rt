@@ -3,7 +3,6 @@
 ghost use Rattle.std.specs.Prelude.{◌≡◌};
 ghost use Rattle.load_tasks.specs.Setting.{is_settings, is_system, is_work};
 
-use stm_core::VERSION_LIMIT;
 use vac_model::limits::{MOST_BLOCKS, MOST_PARTS, MOST_TRIES};
 
 /// Largest number of clients of a load.
@@ -21,6 +20,10 @@ pub const BLOCKS_OF_ITEM: u32 = 4;
 
 /// Largest number of rounds of a load.
 pub const MOST_ROUNDS: u32 = 100;
+
+/// Bound of the versions of a load's clock: every version is below it, as `stm_core` has it for the
+/// memory on which a load runs.
+pub const VERSION_LIMIT: u64 = 1 << 62;
 
 /// The whole, of which shares are given in per cent.
 pub const PERCENT: u32 = 100;

@@ -1,4 +1,4 @@
 use Rattle.judge_calls.proofs.judge.Judge.new.Goals as goal
 
-pub returns-clause-empty : goal.returns-clause-empty
-returns-clause-empty c = record { heap = c.in_ok-new.ensures; spans = c.new-2.ensures }
+pub returns : goal.returns
+returns c = record { state = c.empty_manager.ensures; spans = c.new.ensures }
