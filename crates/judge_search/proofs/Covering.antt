@@ -25,8 +25,8 @@ module _ {O : Type 0} where
           | inr u ↦ rw (t.0, u.0) (rw t.0 refl)
         ]
         | inr t ↦ elim (test c.client j) [
-          | inl u ↦ rw (t.0, u.0) (rw u.0 refl)
-          | inr u ↦ rw (t.0, u.0) (rw (t.0, u.0) (ap (λ l. c ∷ l) (swapped j k d cs)))
+          | inl u ↦ rw (t.0, u.0) refl
+          | inr u ↦ rw (t.0, u.0) (rw t.0 (ap (λ l. c ∷ l) (swapped j k d cs)))
         ]
       ]
 
@@ -40,18 +40,10 @@ module _ {O : Type 0} where
           | inr u ↦ rw (t.0, u.0) refl
         ]
         | inr t ↦ elim (test c.client k) [
-          | inl u ↦ rw (t.0, u.0) (rw u.0 (ap (λ l. c ∷ l) (others_kept j k d cs)))
-          | inr u ↦ rw (t.0, u.0) (rw u.0 (others_kept j k d cs))
+          | inl u ↦ rw (t.0, u.0) (ap (λ l. c ∷ l) (others_kept j k d cs))
+          | inr u ↦ rw (t.0, u.0) (others_kept j k d cs)
         ]
       ]
-
-  -- so a call that may come next still may when another client's has a position
-  may_still : (rest : List (Call O)) (c : Call O) (j : ℕ) → j ≢ c.client → MayBegin rest c →
-      MayBegin (without_next j rest) c
-  may_still rest c j d m = record {
-    first = record { tail = m.first.tail; is = others_kept j c.client d rest ∙ m.first.is };
-    early = each_without (λ other. c.begin ≤ other.end) j rest m.early;
-  }
 
   same_head : (c d : Call O) (cs ds : List (Call O)) → c ∷ cs ≡ d ∷ ds → c ≡ d
   same_head c d cs ds e = cc
@@ -62,6 +54,14 @@ module _ {O : Type 0} where
       same_head c d f.tail g.tail (sym f.is ∙ ap (λ k. of_client k rest) e ∙ g.is)
 
 module _ {S O R : Type 0} (X : Rules S O R) where
+  -- so a call that may come next still may when another client's has a position
+  may_still : (rest : List (Call O)) (c : Call O) (j : ℕ) → j ≢ c.client → MayBegin rest c →
+      MayBegin (without_next j rest) c
+  may_still rest c j d m = record {
+    first = record { tail = m.first.tail; is = others_kept j c.client d rest ∙ m.first.is };
+    early = each_without X (λ other. c.begin ≤ other.end) j rest m.early;
+  }
+
   -- the configuration without a call, in the same state
   abbrev left_out : Configuration S O → Call O → Configuration S O
   left_out at read = record { rest = without_next read.client at.rest; state = at.state }

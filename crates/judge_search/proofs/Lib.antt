@@ -20,3 +20,4 @@ pub mod Checks
 pub mod StuckCalls
 pub mod ReachedPoints
 pub mod Covering
+pub mod Fronts

@@ -9,6 +9,7 @@ use Rattle.judge_search.specs.declared.frontier.Node.{Node}
 use Rattle.judge_search.specs.declared.frontier.Front.{Front}
 use Rattle.judge_search.specs.declared.frontier.Sweep.{Sweep}
 use Rattle.judge_search.specs.declared.frontier.Sweep.TheVariants as sweep
+use Rattle.judge_search.specs.declared.point.Point.{Point}
 use Rattle.judge_search.specs.declared.walk.Finding.{Finding}
 use Rattle.judge_search.specs.declared.walk.Finding.TheVariants as finding
 use Rattle.judge_search.specs.Configurations.{Configuration, Goes, CallsReach, fits, after_call, weight, answered}
@@ -138,6 +139,11 @@ module _ {S O R : Type 0} (X : Rules S O R) where
 abbrev pub placed_at : {M : Type 0} → Option (Node M) → ℕ
 placed_at None = 0
 placed_at (Some node) = node.placed
+
+-- the finding that a node stands for: as many completed calls as there have a position at most
+abbrev pub FailsAt : {M : Type 0} → Option (Node M) → Finding (Point M) → Type 0
+FailsAt None found = found ≡ finding.Unknown 0
+FailsAt (Some node) found = found ≡ finding.NoOrder node.placed node.point
 
 -- a node is the given one or one of these, and at none of them more completed calls are counted
 pub record IsDeepestOf {M : Type 0} (given : Option (Node M)) (nodes : List (Node M))

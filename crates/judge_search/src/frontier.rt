@@ -8,7 +8,7 @@ ghost use Rattle.judge_search.specs.Calls.{calls_of, can_come};
 ghost use Rattle.judge_search.specs.Point.{made_of, point_at, point_views};
 ghost use Rattle.judge_search.specs.Frontier.{node_at, AreNodesAfter, AreUnfinished, IsDeepestOf};
 ghost use Rattle.judge_search.specs.Frontier.{IsReadOnly, KeepsAll, Meets, NodeLedTo, Settles};
-ghost use Rattle.judge_search.specs.Frontier.{ShowsNoOrder, Sweeps};
+ghost use Rattle.judge_search.specs.Frontier.{FailsAt, ShowsNoOrder, Sweeps};
 
 use crate::calls::Calls;
 use crate::index::Index;
@@ -273,7 +273,7 @@ pub(crate) enum Sweep<M> {
 }
 
 /// Expands nodes until each of them has a position for the first call that has none in one of them.
-fn sweep<M: Object + Drop>(
+fn sweep_end<M: Object + Drop>(
     alloc: Global,
     calls: &Calls<M::Op>,
     nodes: Vec<Node<M>>,
@@ -298,6 +298,22 @@ fn sweep<M: Object + Drop>(
     Ok(Sweep::Full)
 }
 
+/// Returns the given node, or the other one if more completed calls have a position there.
+fn deeper_of<M: Drop>(best: Option<Node<M>>, node: Node<M>) -> Option<Node<M>>
+    ensures { IsDeepestOf best (node ∷ []) result }
+{
+    match best {
+        Some(best) => {
+            if node.placed <= best.placed {
+                Some(best)
+            } else {
+                Some(node)
+            }
+        }
+        None => Some(node),
+    }
+}
+
 /// Returns a node with the most completed calls that have a position: the given one, or one of
 /// these.
 fn deepest_of<M: Drop>(best: Option<Node<M>>, nodes: Vec<Node<M>>) -> Option<Node<M>>
@@ -305,16 +321,13 @@ fn deepest_of<M: Drop>(best: Option<Node<M>>, nodes: Vec<Node<M>>) -> Option<Nod
 {
     let mut best = best;
     'nodes: for node in nodes {
-        best = match best {
-            Some(best) if node.placed <= best.placed => Some(best),
-            _ => Some(node),
-        };
+        best = deeper_of(best, node);
     }
     best
 }
 
 /// Returns the places of the calls of a trail, from the first to the last.
-fn places_of(alloc: Global, trail: &[TrailStep], last: usize) -> Result<Vec<usize>, AllocError> {
+fn trail_places(alloc: Global, trail: &[TrailStep], last: usize) -> Result<Vec<usize>, AllocError> {
     let mut places = Vec::new(alloc);
     let mut after = last;
     'trail: while 0 < after {
@@ -326,6 +339,16 @@ fn places_of(alloc: Global, trail: &[TrailStep], last: usize) -> Result<Vec<usiz
     }
     places.reverse();
     Ok(places)
+}
+
+/// Returns the finding that no order places more completed calls than lead to a node.
+fn failure_at<M>(best: Option<Node<M>>) -> Finding<Point<M>>
+    ensures { FailsAt best result }
+{
+    match best {
+        Some(node) => Finding::NoOrder(node.placed, node.point),
+        None => Finding::Unknown(0),
+    }
 }
 
 /// Searches for a linearization of the calls that are left at a point, one end after the other, and
@@ -351,10 +374,10 @@ pub(crate) fn find_by_ends<M: Object + Drop, P: Watcher>(
     let mut expanded: u64 = 0;
     'ends: for end in 0..steps {
         watcher.tell(end, expanded);
-        let front = match sweep(alloc, calls, nodes, &mut trail)? {
+        let front = match sweep_end(alloc, calls, nodes, &mut trail)? {
             Sweep::Swept(front) => front,
             Sweep::Found(last) => {
-                return Ok(Finding::Order(places_of(alloc, trail.as_slice(), last)?));
+                return Ok(Finding::Order(trail_places(alloc, trail.as_slice(), last)?));
             }
             Sweep::Full => return Ok(Finding::Unknown(0)),
         };
@@ -362,15 +385,12 @@ pub(crate) fn find_by_ends<M: Object + Drop, P: Watcher>(
         expanded = expanded.saturating_add(due.nodes.len() as u64);
         best = deepest_of(best, due.nodes);
         nodes = ahead.nodes;
-        if nodes.is_empty() {
-            break;
+        if nodes.len() == 0 {
+            return Ok(failure_at(best));
         }
         if steps < expanded || MOST_TRAIL < trail.len() {
             return Ok(Finding::Unknown(0));
         }
     }
-    match best {
-        Some(node) if nodes.is_empty() => Ok(Finding::NoOrder(node.placed, node.point)),
-        _ => Ok(Finding::Unknown(0)),
-    }
+    Ok(Finding::Unknown(0))
 }
