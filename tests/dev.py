@@ -1,7 +1,8 @@
 #!/usr/bin/env python3
 """Holds ./dev against its help and its tools: each command answers, refusals have a text and a status, and a toolchain
-whose parts are other than those known here is used through `rt` alone. Lints the scripts of the tree if linters are
-installed. Needs no built program."""
+whose parts are other than those known here is used through `rt` alone. Checks on examples how a refusal of a mutant is
+judged, and which changes of a text its result outlives. Lints the scripts of the tree if linters are installed. Needs no
+built program."""
 
 import os
 import shutil
@@ -62,6 +63,71 @@ def holds_toolchains(folder):
     want(status == 1 and "not as this script knows them" in text, f"an unproved build: status {status}, {text!r}")
 
 
+# A library, and changes of it: a result of a mutant above it outlives the first ones, and not the others.
+LIBRARY = """//! A counter.
+use crate::inner::{Step, step};
+
+/// A count.
+pub struct Count {
+    number: u64,
+}
+
+const MOST: u64 = 9;
+
+impl Count {
+    /// Returns the number.
+    pub fn get(&self) -> u64
+        ensures { result ≡ self.now.number }
+    {
+        self.number
+    }
+}
+
+fn hidden(number: u64) -> u64
+    ensures { result ≡ number }
+{
+    step(number)
+}
+"""
+OUTLIVED = [("        self.number\n", "        self.number + 0\n"), ("/// A count.", "/// A number."), ("≡ number }", "≡ 0 }"),
+            ("{Step, step}", "{Step, other}"), ("fn hidden", "fn other")]
+NOT_OUTLIVED = [("≡ self.now.number", "≡ 0"), ("number: u64,", "number: u32,"), ("MOST: u64 = 9", "MOST: u64 = 8"),
+                ("pub fn get", "pub fn find")]
+# What a check may say of a mutant, and what that comes to.
+SAID = [
+    (0, "logic=proved functions=1", "PROVED"),
+    (1, "fn a::b::c: not proved: `search` did not prove `ok`\nonly=1 proved=0", "SHOWN"),
+    (1, "./proofs/b/c/Answers.antt:4:5: error: `ok`: it differs\nfn a::b::c: not proved\nonly=1 proved=0", "HAND"),
+    (1, "fn a::b::c: no proof: expected a measure\nlogic=not-proved", "HAND"),
+    (1, "src/b.rt:3:1: error: no such name\nonly=1 proved=0", "BAD"),
+    (3, "antt ran out of stack", "LIMIT"),
+    (2, "error: killed", "UNSURE"),
+]
+
+
+def holds_mutants(folder):
+    """A result outlives changes of the bodies below, and no change of a contract, type or constant; and each outcome of
+    a check is told from the others."""
+    sys.path.insert(0, str(ROOT / "tools"))
+    import plant
+    import shown
+
+    def known(number, text):
+        file = folder / f"crates/library{number}/src/lib.rt"
+        file.parent.mkdir(parents=True)
+        file.write_text(text, encoding="utf-8")
+        return shown.contract_text(file)
+
+    changes = [(pair, True) for pair in OUTLIVED] + [(pair, False) for pair in NOT_OUTLIVED]
+    first = known(0, LIBRARY)
+    for number, ((old, new), is_outlived) in enumerate(changes, 1):
+        same = known(number, LIBRARY.replace(old, new)) == first
+        want(LIBRARY.count(old) == 1 and same == is_outlived, f"a result {'ends' if is_outlived else 'goes on'} at {new!r}")
+    for status, said, kind in SAID:
+        came_to = plant.judged(status, said)[0]
+        want(came_to == getattr(plant, kind), f"a check that says {said!r} comes to {came_to}, and not to {kind}")
+
+
 def tracked():
     """The files of the tree, without those of folders that are made."""
     git = ["git", "-c", f"safe.directory={ROOT}", "ls-files", "--cached", "--others", "--exclude-standard"]
@@ -104,6 +170,7 @@ def main():
     holds_help()
     with tempfile.TemporaryDirectory() as folder:
         holds_toolchains(Path(folder))
+        holds_mutants(Path(folder))
     holds_linters()
     for text in faults:
         print(f"dev: {text}", file=sys.stderr)

@@ -3,7 +3,7 @@
 
 A page for each crate of crates.txt has its public calls with the first sentence of their `///`, their
 clauses with the definitions that these cite and the first sentence of each definition's comment, the
-must-fail edits in their code, the tests that name them, and what is not said. That last stands right at
+mutants in their code that the gate tries, the tests that name them, and what is not said. That last stands right at
 the statement: lines `/// Not said: ..` of a call, lines `-- Not said: ..` above a definition."""
 
 import argparse
@@ -432,28 +432,43 @@ def is_public(function):
     return (function.owner or function.name) in names or outside
 
 
-# Edits and tests.
+# Mutants and tests.
 
-def edits_of(crate):
-    """Each must-fail edit with the functions in whose text its `old:` stands."""
-    placed, elsewhere = {}, []
-    for file in sorted((CRATES / crate / "must-fail").glob("*.edit")):
-        path, where = None, []
-        for line in read(file).splitlines():
+def gate_mutants(crate):
+    """The mutants that the gate tries: each with its name and its edits, as a file and its old text."""
+    lists = ROOT / "tests" / "plants" / f"{crate}.plants"
+    blocks = [(file.stem, read(file)) for file in sorted((CRATES / crate / "must-fail").glob("*.edit"))]
+    for block in read(lists).split("\n\n") if lists.is_file() else []:
+        name = re.search(r"^plant: (.*)", block, re.M)
+        if name and re.search(r"^gate: ", block, re.M):
+            blocks.append((name[1], block))
+    for name, block in blocks:
+        path, places = None, []
+        for line in block.splitlines():
             key, _, value = line.partition(": ")
             if key == "file":
                 path = CRATES / crate / value.strip()
             elif key == "old" and path is not None and path.is_file():
-                at = read(path).find(value)
-                inside = [f for f in functions(path) if at >= 0 and f.start <= at < f.end]
-                if inside:
-                    where.append(max(inside, key=lambda f: f.start))
+                places.append((path, value))
+        yield name, places
+
+
+def edits_of(crate):
+    """Each mutant of the gate with the functions in whose text its `old:` stands."""
+    placed, elsewhere = {}, []
+    for name, places in gate_mutants(crate):
+        where = []
+        for path, value in places:
+            at = read(path).find(value)
+            inside = [f for f in functions(path) if at >= 0 and f.start <= at < f.end]
+            if inside:
+                where.append(max(inside, key=lambda f: f.start))
         if not where:
-            elsewhere.append(file.stem)
+            elsewhere.append(name)
         for function in where:
             listed = placed.setdefault((function.file, function.start), [])
-            if file.stem not in listed:
-                listed.append(file.stem)
+            if name not in listed:
+                listed.append(name)
     return placed, elsewhere
 
 
@@ -613,7 +628,7 @@ def clause_rows(function):
 
 
 def edits_line(function):
-    """The edits, and whether the function has a proof by hand, which an edit may merely fail to fit."""
+    """The mutants, and whether the function has a proof by hand, which a mutant may merely fail to fit."""
     told = ", ".join(function.edits)
     return told + (" (proof by hand)" if has_hand_proof(function) else "")
 
@@ -638,7 +653,7 @@ def call_section(function, tests, told):
         out += ["| Clause | Definition | In words |", "|---|---|---|", *rows, ""]
     marks = []
     if function.edits:
-        marks.append(f"- Edits: {edits_line(function)}")
+        marks.append(f"- Mutants: {edits_line(function)}")
     if tests:
         marks.append(f"- Tests: {tests_line(tests)}")
     marks += [f"- Not said: {text}" for text in function.unsaid]
@@ -701,7 +716,7 @@ def field_row(definition, name, text, own):
 
 
 def private_section(crate, calls):
-    """Private functions in whose code edits stand, or that say what is not said."""
+    """Private functions in whose code mutants stand, or that say what is not said."""
     public = {(f.file, f.start) for f in calls}
     out = []
     for path in sources(crate):
@@ -711,7 +726,7 @@ def private_section(crate, calls):
             where = f"[{path.name}](../../{path.relative_to(ROOT)})"
             out.append(f"- `{function.title()}` ({where}): {sentence(function.words)}")
             if function.edits:
-                out.append(f"  - Edits: {edits_line(function)}")
+                out.append(f"  - Mutants: {edits_line(function)}")
             out += [f"  - Not said: {text}" for text in function.unsaid]
     return out
 
@@ -750,7 +765,7 @@ def page_of(crate, tests, common):
     for function in every:
         function.edits = placed.get((function.file, function.start), [])
     calls = [f for f in every if is_public(f)] if not crate.startswith("test_") else []
-    edits = list((CRATES / crate / "must-fail").glob("*.edit"))
+    edits = list(gate_mutants(crate))
     unsaid = sum(len(f.unsaid) for f in every)
     for path in (CRATES / crate / "specs").rglob("*.antt"):
         unsaid += sum(len(d.unsaid) for d in definitions(path).values())
@@ -774,7 +789,7 @@ def page_of(crate, tests, common):
     if private:
         out += ["## Private functions", "", *private, ""]
     if elsewhere:
-        out += [f"Edits outside functions: {', '.join(elsewhere)}", ""]
+        out += [f"Mutants outside functions: {', '.join(elsewhere)}", ""]
     out += tests_section(crate)
     return "\n".join(out).rstrip() + "\n", counts
 
@@ -785,12 +800,12 @@ def index_of(crates, counts):
            "`./dev ledger`. A promise is a clause of a public call, in the words of the definition that the clause "
            "cites. What is not said stands where the statement stands. The promises of the first page are in "
            "[PROMISES.md](../../docs/PROMISES.md); how large each crate is, in [SIZES.md](SIZES.md).", "",
-           "An edit is a wrong body that the prover must refuse; it is listed at the function in whose "
+           "A mutant is a wrong body that the gate shows to be refused; it is listed at the function in whose "
            "text it stands. Where goals of that function are proved by hand, a refusal may say no more "
            "than that this proof does not fit the other body. A test is listed where it names the call, "
            "itself or by a helper. A clause that begins with `asks` is what the caller must show; a law "
            "is a public function with an empty body, whose contract is the promise.", "",
-           "| Crate | What it is | Calls | Clauses | Edits | Tests | Not said |",
+           "| Crate | What it is | Calls | Clauses | Mutants | Tests | Not said |",
            "|---|---|---|---|---|---|---|"]
     total = Counts()
     for crate in crates:

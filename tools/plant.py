@@ -1,179 +1,58 @@
 #!/usr/bin/env python3
-"""Plants the wrong bodies of tests/plants, each in a copy of its crate, and tells what refuses it. Called by
-`./dev mutate`.
+"""Tries the mutants of tests/plants, each in a copy of its crate, and tells what refuses it. Called by `./dev mutate`, and
+by ./test for the mutants of the gate. tools/mutants.py says how the lists are written.
 
-A file tests/plants/CRATE.plants is a list of plants, blocks of lines with an empty line between them:
+A mutant is shown if the prover leaves a goal of its body open: a clause, what a call requires, or safety. A mutant is not
+shown if only an answer by hand no longer fits and the goals are proved without that answer, or if the prover met a limit:
+the contract may allow the body then. A result is kept in tests/plants/CRATE.shown (tools/shown.py), and the mutant is
+tried again once a text has changed that the result rests on."""
 
-    plant: name-in-plain-words
-    by: clause `ok` of Version::new             what must refuse it: 'clause of FUNCTION' or of TYPE::FUNCTION,
-                                                'clause `NAME` of ..', or of a struct that has it, 'row CRATE:
-                                                TEST' or MODULE::TEST, or 'script tests/NAME', each alone or with
-                                                plain words behind ': '; or why it is 'harmless: ..'
-    file: src/version.rt                        then as in a must-fail edit: a text that stands once in the
-    old: TEXT                                   file, and what stands there in its place; more pairs, and other
-    new: TEXT                                   files, may follow
-    old+: TEXT                                  a further line of the text before it
-
-A line that begins with '#' is a comment."""
-
+import argparse
 import os
 import re
 import shutil
+import signal
 import subprocess
 import sys
 import tempfile
+import time
 from collections import Counter
-from concurrent.futures import ThreadPoolExecutor
-from dataclasses import dataclass, field
-from itertools import chain
+from concurrent.futures import ThreadPoolExecutor, as_completed
 from pathlib import Path
 
 from build_program import Building, kit_module
-from labels import stale
+from gate_builds import stand_on_gate
+from ledger import ROOT
+from mutants import batches, planted, read_lists, stale_labels
+from shown import Shown
 
-ROOT = Path(__file__).resolve().parent.parent
-LISTS = ROOT / "tests" / "plants"
 PARTS = ("src", "specs", "proofs")
-
-USAGE = """usage: ./dev mutate [CRATE|MUTANT].. [--jobs N] [--rows] [--goals] · ./dev mutate --check
-
-Tries the wrong bodies of tests/plants, each in a copy of its crate, and tells what refuses it.
-  --jobs N  the number of mutants that are tried at once (2)
-  --rows    runs the worked examples too, unproved, that must fail if a mutant says 'by: row'
-  --goals   prints each goal that stays open, in place of the first ones
-  --check   only sees that each old text is there, and what is to refuse it
-"""
-
-# So many plants are tried at once at most, and so often without the answers by hand that no longer fit.
-MOST_AT_ONCE, MOST_ROUNDS = 8, 6
+# How often a batch is checked without the answers by hand that no longer fit, and the memory that a prover may take.
+MOST_ROUNDS, PROVER_BYTES = 6, 3 << 30
 
 # What a try comes to.
-CLAUSE, HAND, ROW = "refused by a clause", "refused by a hand proof alone", "refused by a row"
+SHOWN, HAND, LIMIT, ROW = "shown", "not shown: a proof by hand", "not shown: a limit", "refused by a row"
 LEFT, SCRIPT, HARMLESS = "left to a row", "left to a script", "harmless"
 PROVED, BAD, UNSURE = "SURVIVED", "DOES NOT COMPILE", "NOT TRIED"
+FAILED = (PROVED, BAD, UNSURE)
+# The words for those that are kept.
+WORDS = {SHOWN: "shown", HAND: "hand", LIMIT: "limit", PROVED: "proved"}
 
 
-@dataclass
-class Plant:
-    """A wrong body: its crate, its name, what must refuse it, and its edits (file, old text, new text)."""
+def kit_for_beds():
+    """The kit's module, which takes what the gate built for built, and looks at the texts of a crate once."""
+    kit = kit_module()
+    kit.guarded()
+    stand_on_gate(kit)
+    look, seen = kit.stop_on_text, set()
 
-    crate: str
-    name: str
-    by: str = ""
-    edits: list = field(default_factory=list)
+    def look_once(crate, verb):
+        if crate.folder not in seen:
+            look(crate, verb)
+            seen.add(crate.folder)
 
-    def texts(self):
-        """The texts of the files that it changes, by their path in the crate."""
-        texts = {}
-        for file, old, new in self.edits:
-            if file not in texts:
-                texts[file] = (ROOT / "crates" / self.crate / file).read_text()
-            found = texts[file].count(old)
-            if found != 1:
-                raise ValueError(f"its old text stands in {file} {found} times: {old[:60]!r}")
-            texts[file] = texts[file].replace(old, new)
-        return texts
-
-    def functions(self):
-        """The functions that it turns, by their paths below the crate; none, where some place is in none."""
-        found = []
-        for file, old, _ in self.edits:
-            name = function_at((ROOT / "crates" / self.crate / file).read_text(), old)
-            module = "" if Path(file).stem in ("lib", "main") else f"{Path(file).stem}::"
-            found.append(name and module + name)
-        return [] if None in found else list(dict.fromkeys(found))
-
-    def is_in_bodies(self):
-        """Whether it turns bodies alone, and no contract, type or constant."""
-        return all(body_at((ROOT / "crates" / self.crate / file).read_text(), old) for file, old, _ in self.edits)
-
-    def fault(self):
-        """Why it can't be planted, or none."""
-        try:
-            if not self.edits or not re.match(r"(clause |row \w+: |script tests/|harmless: )", self.by):
-                return "it has no pair of texts, or no word on what must refuse it"
-            texts = self.texts()
-            same = all((ROOT / "crates" / self.crate / file).read_text() == text for file, text in texts.items())
-            return "it changes nothing" if same else None
-        except (OSError, ValueError) as error:
-            return str(error)
-
-
-def function_at(text, old):
-    """The function that a text stands in."""
-    head = text[:text.find(old) + len(old)]
-    functions = list(re.finditer(r"^( *)(?:pub(?:\([^)]*\))? )?(?:const )?(?:unsafe )?fn (\w+)", head, re.M))
-    if not functions:
-        return None
-    indent, name = functions[-1].groups()
-    owners = list(re.finditer(r"^(impl|trait)\b(.*)", head[:functions[-1].start()], re.M))
-    if not indent or not owners:
-        return name
-    owner = re.sub(r"^<.*?> (?=\w)|\{.*", "", owners[-1][2].strip())
-    owner = re.sub(r"^(\w+)<([A-Z]\w+)> for ", r"\1\2 for ", owner)
-    while re.search(r"<[^<>]*>", owner):
-        owner = re.sub(r"<[^<>]*>", "", owner)
-    trait, _, of = owner.strip().partition(" for ")
-    return f"{of}{trait}::{name}".replace(" ", "") if of else f"{trait}::{name}"
-
-
-def body_at(text, old):
-    """Whether a text stands, with all its lines, in the body of a function."""
-    start = text.find(old)
-    functions = list(re.finditer(r"^( *)(?:pub(?:\([^)]*\))? )?(?:const )?(?:unsafe )?fn \w+", text[:start], re.M))
-    if not functions:
-        return False
-    indent = functions[-1][1]
-    opened = re.search(rf"^{indent}(?:\S.*)?\{{$", text[functions[-1].start():start], re.M)
-    closed = re.compile(rf"^{indent}\}}", re.M).search(text, functions[-1].start())
-    return bool(opened and closed and closed.start() >= start + len(old))
-
-
-def read_list(path):
-    """The plants of one file, and what in it can't be read."""
-    plants, faults, file = [], [], ""
-    for number, line in enumerate(path.read_text().splitlines(), 1):
-        word, _, text = line.partition(": ") if ": " in line else (line.rstrip(":"), "", "")
-        if not line or line.startswith("#"):
-            continue
-        if word == "plant":
-            plants.append(Plant(path.stem, text))
-        elif not plants:
-            faults.append(f"{path.name}:{number}: no plant stands above this line")
-        elif word == "by":
-            plants[-1].by = text
-        elif word == "file":
-            file = text
-        elif word == "old":
-            plants[-1].edits.append([file, text, ""])
-        elif not plants[-1].edits:
-            faults.append(f"{path.name}:{number}: no 'old:' line stands above this line")
-        elif word == "new":
-            plants[-1].edits[-1][2] = text
-        elif word in ("old+", "new+"):
-            plants[-1].edits[-1][1 if word == "old+" else 2] += "\n" + text
-        else:
-            faults.append(f"{path.name}:{number}: not read: {line[:60]}")
-    return plants, faults
-
-
-def read_lists():
-    """All plants, and what is wrong with their lists."""
-    plants, faults, seen = [], [], set()
-    for path in sorted(LISTS.glob("*.plants")):
-        more, wrong = read_list(path)
-        plants += more
-        faults += wrong
-        if not (ROOT / "crates" / path.stem / "src").is_dir():
-            faults.append(f"{path.name}: there is no crate {path.stem}")
-    for plant in plants:
-        why = plant.fault()
-        if why:
-            faults.append(f"{plant.crate}/{plant.name}: {why}")
-        if (plant.crate, plant.name) in seen:
-            faults.append(f"{plant.crate}/{plant.name}: two plants have this name")
-        seen.add((plant.crate, plant.name))
-    return plants, faults
+    kit.stop_on_text = look_once
+    return kit
 
 
 def linked(folder, to):
@@ -191,14 +70,13 @@ def linked(folder, to):
 
 
 class Bed:
-    """A crate in which bodies are planted, checked over the launcher's builds of the libraries below it, and over what
-    rt check kept of the crate itself, if it did."""
+    """A crate in which mutants are tried, over the builds of the libraries below it that the gate or the launcher left,
+    and over what rt check kept of the crate itself, if it did."""
 
-    def __init__(self, name, jobs):
+    def __init__(self, kit, name, jobs):
         os.chdir(ROOT / "crates" / name)
-        self.kit = kit_module()
-        self.kit.guarded()
-        building = Building(self.kit, jobs, "plant")
+        self.kit = kit
+        building = Building(kit, jobs, "plant")
         self.crate = building.program
         if building.left:
             left = ", ".join(below.name for below in building.left)
@@ -215,101 +93,145 @@ class Bed:
         else:
             os.mkdir(self.seed)
 
-    def check(self, texts, flags):
-        """Checks a copy of the crate with these texts in the place of its own. Returns the status and what was said."""
+    def try_batch(self, mutants):
+        """What the tries of mutants in different bodies come to, and the seconds that they took. They are planted in one
+        copy, and their functions alone are checked: a body is proved by the contracts of what it calls, so none changes
+        what is said of another. Those whose functions do not fail so are tried alone."""
+        began = time.monotonic()
         with tempfile.TemporaryDirectory(dir=self.room.name) as room:
-            for part in PARTS:
-                if os.path.isdir(f"{self.crate.folder}/{part}"):
-                    shutil.copytree(f"{self.crate.folder}/{part}", f"{room}/{part}")
-            for path, text in texts.items():
-                Path(f"{room}/{path}").write_text(text)
-            linked(self.seed, f"{room}/kept")
-            words = self.crate.words(["--jobs", "1", *flags], keeps=False)
-            words = [*self.kit.guarded(), self.kit.RATTLE, "check", *words, "--incremental", f"{room}/kept"]
-            how = {"cwd": room, "stdin": subprocess.DEVNULL, "stdout": subprocess.PIPE, "stderr": subprocess.STDOUT}
-            ran = subprocess.run(words, errors="replace", check=False, **how)
-        return ran.returncode, ran.stdout
-
-    def attempt(self, plant):
-        """What a try of the plant comes to, and what shows it: first its functions alone, then the crate, unless no
-        clause is meant to refuse it."""
-        texts = plant.texts()
-        flags = [word for name in plant.functions() for word in ("--only", name)]
-        came_to, shown = self.attempt_by(texts, flags) if flags else (UNSURE, [])
-        if came_to == UNSURE or (came_to == PROVED and plant.by.startswith("clause")):
-            return self.attempt_by(texts, [])
-        return came_to, shown
-
-    def attempt_by(self, texts, flags):
-        """The same by one check; where answers by hand no longer fit, once more without these."""
-        status, said = self.check(texts, flags)
-        came_to, shown = judged(status, said)
-        texts, dropped = self.without_answers(texts, said)
-        if came_to != HAND or not dropped:
-            return came_to, shown
-        came_to, shown = judged(*self.check(texts, flags))
-        names = {name.strip(" !") for line in shown for name in line.split(": ", 1)[-1].split(",")}
-        if came_to == CLAUSE and names <= dropped and not any("!" in line for line in shown):
-            return HAND, [f"{line}, which wanted a proof by hand before" for line in shown]
-        return came_to, shown
-
-    def attempt_many(self, plants):
-        """What the tries of plants in different bodies come to, by one check of all their functions, and more where
-        answers by hand no longer fit: a body is proved by the contracts of what it calls, so none changes what is said
-        of another. A plant whose functions do not fail by this check is tried alone."""
-        if len(plants) == 1:
-            return [(plants[0], *self.attempt(plants[0]))]
-        texts, dropped = planted(plants), set()
-        flags = [word for plant in plants for name in plant.functions() for word in ("--only", name)]
-        for _ in range(MOST_ROUNDS):
-            status, said = self.check(texts, flags)
-            texts, more = self.without_answers(texts, said)
-            dropped |= more
-            if not more:
-                break
-        told = {} if more else goals_by_function(status, said)
-        tried = []
-        for plant in plants:
-            goals = [goal for name in plant.functions() for goal in told.get(name, [])]
-            shown = [f"{', '.join(plant.functions())}: {', '.join(goals)}"]
-            if not goals:
-                tried.append((plant, *self.attempt(plant)))
-            elif all(goal in dropped for goal in goals):
-                tried.append((plant, HAND, [f"{line}, which wanted a proof by hand before" for line in shown]))
-            else:
-                tried.append((plant, CLAUSE, shown))
-        return tried
-
-    def without_answers(self, texts, said):
-        """The texts without the answers by hand that no longer fit, and the names of these."""
-        texts, dropped = dict(texts), set()
-        for file, name in ANSWER.findall(said):
-            text = texts.get(file) or Path(f"{self.crate.folder}/{file}").read_text()
-            texts[file] = re.sub(rf"(?ms)^pub {re.escape(name)} :.*?(?=^pub |^abbrev |\Z)", "", text)
-            dropped.add(name)
-        return texts, dropped
+            copy = Copy(self, room)
+            tried = copy.try_together(mutants) if len(mutants) > 1 else []
+            alone = [mutant for mutant in mutants if mutant not in [one for one, _, _ in tried]]
+            tried += [(mutant, *copy.try_alone(mutant)) for mutant in alone]
+        return tried, time.monotonic() - began
 
     def close(self):
         """Removes what it kept."""
         self.room.cleanup()
 
 
+class Copy:
+    """A copy of a crate in which one text after the other is checked, each over what the checks before it proved."""
+
+    def __init__(self, bed, room):
+        self.bed, self.room, self.changed = bed, room, set()
+        for part in PARTS:
+            if os.path.isdir(f"{bed.crate.folder}/{part}"):
+                shutil.copytree(f"{bed.crate.folder}/{part}", f"{room}/{part}")
+        linked(bed.seed, f"{room}/kept")
+
+    def check(self, texts, functions):
+        """Checks the copy with these texts in the place of the crate's own, and these functions of it alone, if any are
+        given. Returns the status and what was said."""
+        for path in self.changed - set(texts):
+            shutil.copyfile(f"{self.bed.crate.folder}/{path}", f"{self.room}/{path}")
+        for path, text in texts.items():
+            Path(f"{self.room}/{path}").write_text(text)
+        self.changed = set(texts)
+        kit, flags = self.bed.kit, [word for name in functions for word in ("--only", name)]
+        words = [*self.bed.crate.words(["--jobs", "1", *flags], keeps=False), "--incremental", f"{self.room}/kept"]
+        how = {"cwd": self.room, "stdin": subprocess.DEVNULL, "stdout": subprocess.PIPE, "stderr": subprocess.STDOUT}
+        for _ in range(2):
+            ran = subprocess.run([*kit.guarded(), kit.RATTLE, "check", *words], errors="replace", check=False, **how)
+            # (most likely for memory)
+            if ran.returncode != -signal.SIGKILL:
+                break
+        return ran.returncode, ran.stdout
+
+    def try_together(self, mutants):
+        """What these mutants come to, without those of which one check of all their functions does not tell it. If
+        answers by hand no longer fit, the functions are checked once more without these answers."""
+        texts, dropped, tried, left = planted(mutants), set(), [], list(mutants)
+        for _ in range(MOST_ROUNDS):
+            status, said = self.check(texts, [name for mutant in left for name in mutant.functions])
+            if status != 1 or any(map(is_unread, said.split("\n"))):
+                break
+            told, wanted, left = goals_by_function(said), left, []
+            texts, now = self.without_answers(texts, said)
+            for mutant in wanted:
+                goals = [(f"{folder_of(name)}/Answers.antt", goal) for name in mutant.functions
+                         for goal in told.get(name, [])]
+                folders = tuple(f"./{folder_of(name)}/" for name in mutant.functions)
+                by_hand = [line for line in said.split("\n") if line.startswith(folders) and BY_HAND.match(line)]
+                shown = f"{', '.join(mutant.functions)}: {', '.join(goal for _, goal in goals)}"
+                if any(goal not in dropped for goal in goals):
+                    tried.append((mutant, SHOWN, [shown]))
+                elif any(f"./{file}".startswith(folders) for file, _ in now):
+                    left.append(mutant)
+                elif goals:
+                    tried.append((mutant, HAND, [f"{shown}, which wanted a proof by hand before"]))
+                elif by_hand:
+                    tried.append((mutant, HAND, by_hand))
+            dropped |= now
+            if not left:
+                break
+        return tried
+
+    def try_alone(self, mutant):
+        """What a try of the mutant comes to, and what shows it: first its functions alone, then the crate, unless no
+        clause is meant to refuse it."""
+        texts = mutant.texts()
+        came_to, shown = self.try_texts(texts, mutant.functions) if mutant.functions else (UNSURE, [])
+        if came_to == UNSURE or (came_to == PROVED and mutant.by.startswith("clause")):
+            return self.try_texts(texts, [])
+        return came_to, shown
+
+    def try_texts(self, texts, functions):
+        """The same by one check; where answers by hand no longer fit, once more without these."""
+        status, said = self.check(texts, functions)
+        came_to, shown = judged(status, said)
+        texts, dropped = self.without_answers(texts, said)
+        if came_to != HAND or not dropped:
+            return came_to, shown
+        came_to, shown = judged(*self.check(texts, functions))
+        names = {name.strip(" !") for line in shown for name in line.split(": ", 1)[-1].split(",")}
+        if came_to == SHOWN and names <= {name for _, name in dropped} and not any("!" in line for line in shown):
+            return HAND, [f"{line}, which wanted a proof by hand before" for line in shown]
+        return came_to, shown
+
+    def without_answers(self, texts, said):
+        """The texts without the answers by hand that no longer fit, and these answers: each with its file."""
+        texts, dropped = dict(texts), set()
+        for file, name in ANSWER.findall(said):
+            text = texts.get(file) or Path(f"{self.bed.crate.folder}/{file}").read_text()
+            texts[file] = re.sub(rf"(?ms)^pub {re.escape(name)} :.*?(?=^pub |^abbrev |\Z)", "", text)
+            dropped.add((file, name))
+        return texts, dropped
+
+
+def folder_of(function):
+    """The folder of a function's proof by hand, in its crate."""
+    return f"proofs/{function.replace('::', '/')}"
+
+
 GOALS = re.compile(r"^fn (\S+): (?:no proof|not proved): (?!it calls|it passes)(?:.*`search` did not prove (.*)|(.*))")
 FALSE = re.compile(r"^note: \S+: .*\(`([^`]+)`\).*allow values at which this goal is false")
 BY_HAND = re.compile(r"^\./(proofs/\S+\.antt):(\d+):\d+: error: (.*)")
 ANSWER = re.compile(r"(?m)^\./(proofs/\S+/Answers\.antt):\d+:\d+: error: `([^`]+)`")
-UNREAD = re.compile(r"^(?:\./)?src/\S+: error|\berror\[[\w-]+\]")
+# A text that can't be read, and not one of which something is false: its error names no goal, or a name that is not there.
+UNREAD = re.compile(r"(?:\./)?(?:src|specs)/\S+?:\d+:\d+: error: (?!`[^`]*`: )"
+                    r"|(?:\./)?(?:src|specs)/\S+: error: .*(?:is not in scope|has no field|is no name|cannot continue)")
+CODE = re.compile(r"\berror\[[\w-]+\]")
+LIMITS = re.compile(r"antt ran out of (stack|the (steps|memory))|(outgrew the memory limit|stopped at the step limit) \(")
+
+
+def is_unread(line):
+    """Whether a line says that a text can't be read."""
+    return UNREAD.match(line) or CODE.search(line)
 
 
 def judged(status, said):
-    """What a check of a plant comes to, and what shows it: the goals that stayed open, by function, with a '!' where the
-    check knows values at which the goal is false."""
+    """What a check of a mutant comes to, and what shows it: the goals that stayed open, by function, with a '!' where
+    the check knows values at which the goal is false. (A change here that judges an earlier result otherwise raises
+    JUDGING of tools/shown.py.)"""
     lines = said.rstrip("\n").split("\n")
     if status == 0:
         return PROVED, []
-    unread = [line for line in lines if UNREAD.search(line)]
+    unread = [line for line in lines if is_unread(line)]
     if unread:
         return BAD, unread[:2]
+    if status == 3 and LIMITS.search(said):
+        return LIMIT, [line for line in lines if LIMITS.search(line)][:1]
     if status != 1 or not re.match(r"logic=not-proved|only=", lines[-1]):
         return UNSURE, lines[-2:]
     false = {found[1] for found in map(FALSE.match, lines) if found}
@@ -320,17 +242,15 @@ def judged(status, said):
         goals.append((bool(names), f"{found[1].split('::', 1)[1]}: {told}"))
     by_hand = [f"{found[1]}:{found[2]}: {found[3][:120]}" for found in map(BY_HAND.match, lines) if found]
     if any(is_searched for is_searched, _ in goals):
-        return CLAUSE, [told for is_searched, told in goals if is_searched]
+        return SHOWN, [told for is_searched, told in goals if is_searched]
     if by_hand or any("expected a measure" in told or "expected an invariant" in told for _, told in goals):
         return HAND, by_hand or [told for _, told in goals]
-    return CLAUSE, [told for _, told in goals] or lines[-3:]
+    return (SHOWN, [told for _, told in goals]) if goals else (HAND, lines[-3:])
 
 
-def goals_by_function(status, said):
-    """The goals that stayed open, by function; none, where the check said something else too."""
+def goals_by_function(said):
+    """The goals that stayed open, by function."""
     lines = said.rstrip("\n").split("\n")
-    if status != 1 or any(map(UNREAD.search, lines)) or any(map(BY_HAND.match, lines)):
-        return {}
     false = {found[1] for found in map(FALSE.match, lines) if found}
     told = {}
     for found in filter(None, map(GOALS.match, lines)):
@@ -339,51 +259,9 @@ def goals_by_function(status, said):
     return told
 
 
-def planted(plants):
-    """The texts of the files that these plants of one crate change, by their path in it, all planted."""
-    texts = {}
-    for plant in plants:
-        for file, old, new in plant.edits:
-            text = texts.get(file) or (ROOT / "crates" / plant.crate / file).read_text()
-            texts[file] = text.replace(old, new)
-    return texts
-
-
-def fit_together(one, other):
-    """Whether two plants can stand in one copy: they turn different bodies, and no other function or text."""
-    if set(one.functions()) & set(other.functions()) or not (one.is_in_bodies() and other.is_in_bodies()):
-        return False
-    return not any(old in new for old, new in [(a[1], b[2]) for a in one.edits for b in other.edits]
-                   + [(b[1], a[2]) for a in one.edits for b in other.edits])
-
-
-def batches(plants, jobs):
-    """The plants in batches that are tried at once."""
-    most, found = min(MOST_AT_ONCE, max(1, -(-len(plants) // jobs))), []
-    for plant in plants:
-        fits = (batch for batch in found if len(batch) < most and all(fit_together(plant, other) for other in batch))
-        batch = next(fits, None) if plant.functions() else None
-        if batch is None:
-            found.append([plant])
-        else:
-            batch.append(plant)
-    return found
-
-
-def asked_for(plants, words):
-    """The plants of the crates and of the names given; all, where none is given. Stops at a word that is neither."""
-    if not words:
-        return plants
-    for word in words:
-        if not any(word in (plant.crate, plant.name, f"{plant.crate}/{plant.name}") for plant in plants):
-            sys.exit(f"plant: {word} is no crate with plants, and no plant")
-    return [plant for plant in plants
-            if {plant.crate, plant.name, f"{plant.crate}/{plant.name}"} & set(words)]
-
-
-def tried_by_rows(plant):
-    """Runs the rows that must fail with the plant, unproved, in a copy of the crates."""
-    rows = re.match(r"row (\w+): ", plant.by)[1]
+def tried_by_rows(mutant):
+    """Runs the rows that must fail with the mutant, unproved, in a copy of the crates."""
+    rows = re.match(r"row (\w+): ", mutant.by)[1]
     with tempfile.TemporaryDirectory(prefix=f"plants-{os.getpid()}-") as room:
         for file in ("crates.txt", "HANDLES"):
             shutil.copy(ROOT / file, room)
@@ -391,8 +269,8 @@ def tried_by_rows(plant):
             for part in (*PARTS, "data"):
                 if (crate / part).is_dir():
                     shutil.copytree(crate / part, f"{room}/crates/{crate.name}/{part}")
-        for path, text in plant.texts().items():
-            Path(f"{room}/crates/{plant.crate}/{path}").write_text(text)
+        for path, text in mutant.texts().items():
+            Path(f"{room}/crates/{mutant.crate}/{path}").write_text(text)
         how = {"cwd": f"{room}/crates/{rows}", "stdin": subprocess.DEVNULL, "errors": "replace"}
         ran = subprocess.run(["rt", "try", "--test"], capture_output=True, check=False, **how)
     said = ran.stdout + ran.stderr
@@ -401,68 +279,154 @@ def tried_by_rows(plant):
     return came_to, failed or said.strip().split("\n")[-3:]
 
 
-def try_crate(name, plants, options, counts):
-    """Tries the plants of one crate, and tells of each."""
-    bed = Bed(name, options["jobs"])
-    with ThreadPoolExecutor(options["jobs"]) as pool:
-        tried = pool.map(bed.attempt_many, batches(plants, options["jobs"]))
-        for plant, came_to, shown in chain.from_iterable(tried):
-            came_to, shown = as_meant(plant, came_to, shown, options)
-            counts[came_to] += 1
-            print(f"{plant.crate}/{plant.name}: {came_to}", flush=True)
-            for line in shown if options["goals"] else shown[:3]:
-                print(f"    {line}")
-            if came_to in (PROVED, BAD, UNSURE):
-                print(f"    by: {plant.by}", flush=True)
-    bed.close()
-
-
-def as_meant(plant, came_to, shown, options):
-    """What a proved plant is where no clause is meant to refuse it."""
+def as_meant(mutant, came_to, shown, rows):
+    """What a proved mutant is where no clause is meant to refuse it."""
     if came_to != PROVED:
         return came_to, shown
-    if plant.by.startswith("harmless"):
+    if mutant.by.startswith("harmless"):
         return HARMLESS, []
-    if plant.by.startswith("script"):
-        return SCRIPT, [plant.by]
-    if plant.by.startswith("row") and options["rows"]:
-        return tried_by_rows(plant)
-    return (LEFT, [plant.by]) if plant.by.startswith("row") else (came_to, shown)
+    if mutant.by.startswith("script"):
+        return SCRIPT, [mutant.by]
+    if mutant.by.startswith("row"):
+        return tried_by_rows(mutant) if rows else (LEFT, [mutant.by])
+    return came_to, shown
+
+
+class Report:
+    """What the tries came to: kept for later runs, told, and counted by crate."""
+
+    def __init__(self, mutants, options):
+        self.options = options
+        self.names = {crate: {m.name for m in mutants if m.crate == crate} for crate in {m.crate for m in mutants}}
+        self.shown = {crate: Shown(crate) for crate in self.names}
+        self.counts, self.seconds = {}, Counter()
+
+    def known(self, mutant):
+        """Takes a mutant's result from an earlier run, if it still stands. Returns whether it did."""
+        found = None if self.options.anew else self.shown[mutant.crate].of(mutant)
+        if found:
+            came_to = next(kind for kind, word in WORDS.items() if word == found[0])
+            self.count(mutant, as_meant(mutant, came_to, found[1], self.options.rows)[0])
+        return bool(found)
+
+    def tell(self, mutant, came_to, shown):
+        """Keeps a result, unless it is a fault, tells it and counts it."""
+        meant, why = as_meant(mutant, came_to, shown, self.options.rows)
+        if came_to in WORDS and meant not in FAILED:
+            goal = "" if came_to == PROVED else (shown or [""])[0][:100]
+            self.shown[mutant.crate].keep(mutant, WORDS[came_to], goal, self.names[mutant.crate])
+        print(f"{mutant}: {meant}", flush=True)
+        for line in why if self.options.goals else why[:3]:
+            print(f"    {line}")
+        if meant in FAILED:
+            print(f"    by: {mutant.by}", flush=True)
+        self.count(mutant, meant)
+
+    def count(self, mutant, meant):
+        """Counts an outcome."""
+        self.counts.setdefault(mutant.crate, Counter())[meant] += 1
+
+    def total(self):
+        """The counts of all crates."""
+        return sum(self.counts.values(), Counter())
+
+    def table(self):
+        """The counts of each crate, and the seconds of its tries."""
+        kinds = [kind for kind in (SHOWN, HAND, LIMIT, ROW, LEFT, SCRIPT, HARMLESS, *FAILED) if self.total()[kind]]
+        print("", f"| Crate | {' | '.join(kinds)} | Seconds |", f"|---|{'--:|' * (len(kinds) + 1)}", sep="\n")
+        for crate, counts in [*sorted(self.counts.items()), ("all", self.total())]:
+            seconds = self.seconds[crate] if crate != "all" else sum(self.seconds.values())
+            print(f"| {crate} | {' | '.join(str(counts[kind]) for kind in kinds)} | {seconds:.0f} |")
+
+
+def try_all(mutants, report, jobs):
+    """Tries mutants in batches, as many at once as there are jobs, those of the largest crates first."""
+    crates = {crate: [m for m in mutants if m.crate == crate] for crate in {m.crate for m in mutants}}
+    beds, running, kit = {}, {}, kit_for_beds()
+    with ThreadPoolExecutor(jobs) as pool:
+        for crate, here in sorted(crates.items(), key=lambda one: -cost_of_crate(one[0])):
+            print(f"plant: {crate}: {len(here)} mutants", flush=True)
+            try:
+                beds[crate] = Bed(kit, crate, jobs)
+            except OSError as error:
+                for mutant in here:
+                    report.tell(mutant, UNSURE, [str(error)])
+                continue
+            for batch in batches(here, jobs if len(crates) == 1 else 1):
+                running[pool.submit(beds[crate].try_batch, batch)] = crate
+        for done in as_completed(running):
+            tried, seconds = done.result()
+            report.seconds[running[done]] += seconds
+            for mutant, came_to, shown in tried:
+                report.tell(mutant, came_to, shown)
+    for bed in beds.values():
+        bed.close()
+
+
+def cost_of_crate(name):
+    """What a crate costs, by its lines of code."""
+    return sum(path.read_text().count("\n") for path in (ROOT / "crates" / name / "src").rglob("*.rt"))
+
+
+def processors():
+    """As many provers as there are processors and memory for."""
+    free = int(re.search(r"MemAvailable:\s+(\d+)", Path("/proc/meminfo").read_text())[1]) << 10
+    return max(1, min(len(os.sched_getaffinity(0)), free // PROVER_BYTES))
+
+
+def asked_for(mutants, options):
+    """The mutants of the crates and of the names given, or of the gate. Stops at a word that is neither."""
+    for word in options.names:
+        if not any(word in (m.crate, m.name, str(m)) for m in mutants):
+            sys.exit(f"plant: {word} is no crate with mutants, and no mutant")
+    if options.names:
+        mutants = [m for m in mutants if {m.crate, m.name, str(m)} & set(options.names)]
+    return [m for m in mutants if m.gate] if options.gate else mutants
+
+
+def options_of(words):
+    """The options of the command line."""
+    parser = argparse.ArgumentParser(prog="./dev mutate", description=__doc__.split("\n\n")[1])
+    parser.add_argument("names", nargs="*", metavar="CRATE|MUTANT", help="the mutants of a crate, or one of them")
+    parser.add_argument("--all", action="store_true", help="all mutants; prints a table of the crates")
+    parser.add_argument("--gate", action="store_true", help="the mutants that ./test tries, or those among the named")
+    parser.add_argument("--anew", action="store_true", help="also those whose kept result still stands")
+    parser.add_argument("--jobs", type=int, metavar="N", help="the number of provers (one a processor)")
+    parser.add_argument("--rows", action="store_true", help="run the worked examples too, unproved, that must fail if a "
+                        "mutant says 'by: row'")
+    parser.add_argument("--goals", action="store_true", help="print each goal that stays open, not only the first ones")
+    parser.add_argument("--check", action="store_true", help="only compare the lists with the tree")
+    options = parser.parse_args(words)
+    if not (options.names or options.all or options.gate or options.check):
+        parser.error("name crates or mutants, or give --all, --gate or --check")
+    return options
 
 
 def main():
     """Status 0: none survived. 1: one did, or could not be tried, or the lists can't be read."""
     sys.stdout.reconfigure(line_buffering=True)
-    words = sys.argv[1:]
-    if {"-h", "--help"} & set(words):
-        print(USAGE, end="")
-        return
-    options = {"rows": "--rows" in words, "goals": "--goals" in words, "jobs": 2}
-    if "--jobs" in words:
-        at = words.index("--jobs")
-        options["jobs"] = max(1, int(words[at + 1]))
-        del words[at:at + 2]
-    plants, faults = read_lists()
-    if "--check" in words:
-        why = [(plant, stale(plant.crate, plant.by)) for plant in plants]
-        faults += [f"{plant.crate}/{plant.name}: {told}" for plant, told in why if told]
-    if "--check" in words or faults:
-        told = f"plant: {len(plants)} plants, whose old texts stand once, by clauses, tests and scripts that are there"
+    options, began = options_of(sys.argv[1:]), time.monotonic()
+    mutants, faults = read_lists()
+    faults += stale_labels(mutants) if options.check else []
+    if options.check or faults:
+        told = f"plant: {len(mutants)} mutants, whose old texts stand once, by clauses, tests and scripts that are there"
         print("\n".join(faults) if faults else told)
         sys.exit(1 if faults else 0)
-    plants = asked_for(plants, [word for word in words if not word.startswith("--")])
-    counts = Counter()
-    for name in dict.fromkeys(plant.crate for plant in plants):
-        here = [plant for plant in plants if plant.crate == name]
-        print(f"plant: {name}: {len(here)} plants")
-        try:
-            try_crate(name, here, options, counts)
-        except OSError as error:
-            counts[UNSURE] += len(here)
-            print(f"plant: {name}: {error}")
-    told = ", ".join(f"{number} {kind}" for kind, number in counts.most_common())
-    print(f"plant: {sum(counts.values())} plants: {told}")
-    sys.exit(1 if counts[PROVED] + counts[UNSURE] + counts[BAD] else 0)
+    report = Report(mutants, options)
+    wanted = asked_for(mutants, options)
+    left = [mutant for mutant in wanted if not report.known(mutant)]
+    print(f"plant: {len(wanted)} mutants, of which {len(wanted) - len(left)} have a result that still stands")
+    try_all(left, report, options.jobs or processors())
+    total = report.total()
+    if options.all:
+        report.table()
+    told = ", ".join(f"{number} {kind}" for kind, number in total.most_common())
+    print(f"plant: {len(left)} tried in {time.monotonic() - began:.0f} seconds; in all {told or 'none'}")
+    failed = sum(total[kind] for kind in FAILED)
+    if options.gate:
+        print(f"{total.total() - failed} passed, {failed} failed")
+    sys.exit(1 if failed else 0)
 
 
-main()
+if __name__ == "__main__":
+    main()
