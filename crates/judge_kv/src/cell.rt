@@ -1,6 +1,7 @@
 //! The running state of one key.
 
-ghost use Rattle.std.specs.Prelude.{◌≡◌, true, None, Some, is_some, Ok, IfOk};
+ghost use Rattle.std.specs.Prelude.{◌≡◌, true, None, Some, is_some, Ok, IfOk, codes};
+ghost use Rattle.judge_object.specs.Rules.{given_text};
 ghost use Rattle.judge_kv.specs.Shared.{value_in};
 ghost use Rattle.judge_kv.specs.Commands.{does, makes};
 ghost use Rattle.judge_kv.specs.Operations.{CompareAndSet};
@@ -35,6 +36,16 @@ impl Model for Cell {
     ghost use Rattle.judge_kv.specs.Shared.{value_in};
 
     ghost view = { λ c. value_in c.value };
+}
+
+/// Returns whether a reply is known to be `false`.
+fn is_false(reply: &Option<Vec<u8>>) -> bool
+    ensures { result ≡ true → given_text reply.now ≡ Some (codes "false") }
+{
+    match reply {
+        Some(text) => text.as_slice() == b"false".as_slice(),
+        None => false,
+    }
 }
 
 /// Returns a value that shares its place in memory with this one.
@@ -277,6 +288,20 @@ impl Object for Cell {
         match &self.value {
             None => 0,
             Some(value) => value.hash(),
+        }
+    }
+
+    fn is_read_only(op: &Operation, reply: &Option<Vec<u8>>) -> bool {
+        match op.command() {
+            Command::Get => true,
+            Command::CompareAndSet(..) | Command::PutIfAbsent(_) => is_false(reply),
+            Command::Put(_)
+            | Command::Delete
+            | Command::Append(_)
+            | Command::GetAndSet(_)
+            | Command::Increment(_)
+            | Command::Transact(_)
+            | Command::TransactAndGet(_) => false,
         }
     }
 

@@ -39,6 +39,18 @@ pub trait Object: Sized {
     /// Not said: anything about the hash.
     fn hash(&self) -> u64;
 
+    /// Returns true only if no call with this operation and this reply changes a state in which it
+    /// gives the reply, as a read does.
+    ///
+    /// Not said: that each such call is recognized.
+    fn is_read_only(_op: &Self::Op, _reply: &Option<Vec<u8>>) -> bool
+        ensures { result ≡ true → (s : Self) →
+            is_right rules (given_text _reply.now) (rules.run s _op.now).1 ≡ true →
+            (rules.run s _op.now).0 ≡ s }
+    {
+        false
+    }
+
     /// Appends the text of a reply to a buffer.
     fn print(reply: &Self::Reply, out: &mut Vec<u8>) -> Result<(), AllocError>
         ensures { OnOk result (out.new.items ≡ out.old.items ++ rules.text reply.now) };

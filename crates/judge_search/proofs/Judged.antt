@@ -126,3 +126,14 @@ module _ {S O R : Type 0} (X : Rules S O R) where
     orders = record { left = l.orders.left; merges = λ k. l.orders.merges k ∙ sym (m k); never = l.orders.never };
     linearization = l.linearization;
   })
+
+  -- what is found in some steps is found in more, unless nothing is
+  pub more_steps : {P : Type 0} (at : P → Configuration S O) (s : S) (calls : List (Call O)) (few steps : ℕ)
+      (found : Found P) → few ≤ steps → (IsUnknown found.finding → ⊥) → IsFoundIn X at s calls few found →
+      IsFoundIn X at s calls steps found
+  more_steps at s calls few steps found l known h = record {
+    within = let w = h.within in omega arith;
+    run = h.run;
+    finds = h.finds;
+    spent = λ none. absurd (known none);
+  }

@@ -19,3 +19,5 @@ pub mod Exact
 pub mod Checks
 pub mod StuckCalls
 pub mod ReachedPoints
+pub mod Covering
+pub mod Fronts

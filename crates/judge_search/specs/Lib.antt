@@ -12,3 +12,4 @@ pub mod Stuck
 pub mod Judging
 pub mod Checking
 pub mod Reaching
+pub mod Frontier

@@ -4,6 +4,7 @@
 
 mod calls;
 mod checking;
+mod frontier;
 mod index;
 mod known;
 mod lasts;

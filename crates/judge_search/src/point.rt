@@ -221,7 +221,8 @@ impl<M: Object + Drop> Point<M> {
 
     /// Returns the place of the first call from a place on that may come next.
     pub(crate) fn next_try(&self, calls: &Calls<M::Op>, from: usize) -> Option<usize>
-        ensures { TellsNext (point_views M.rules calls.now) self.now from result }
+        ensures next { TellsNext (point_views M.rules calls.now) self.now from result }
+        ensures after { IfSome result (λ place. from ≤ place) }
     {
         next_call::<M>(self.low, self.beyond.as_slice(), calls, from)
     }

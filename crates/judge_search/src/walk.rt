@@ -102,7 +102,7 @@ fn go_back<M: Object + Drop>(walk: Walk<Point<M>>) -> Result<Step<Point<M>>, All
 }
 
 /// Returns the number of completed calls with a position after one more call has one.
-fn counted(placed: u64, answered: bool) -> Option<u64>
+pub(crate) fn counted(placed: u64, answered: bool) -> Option<u64>
     ensures { IfSome result (λ count. count ≡ placed + (if answered then 1 else 0)) }
 {
     if answered {

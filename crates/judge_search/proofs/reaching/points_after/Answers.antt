@@ -18,7 +18,7 @@ tries-preserved g c =
     let cs = calls_of calls.lines.items in
     let p = c.in-Some.place in
     let call = get_or cs p (no_call X) in
-    let next = c.in-Some.ensures in
+    let next = c.in-Some.ensures.next in
     let tries = tries_from made cs 0 in
     let left = tries_from made cs c.tries.from in
     let others = tries_from made cs (p + 1) in
@@ -43,4 +43,4 @@ returns g c =
     let made = made_of point in
     let cs = calls_of calls.lines.items in
     tried_all X (point_at X calls) (point_at X calls point) (tries_from made cs 0) (tries_from made cs c.tries.from)
-    c.tries.nexts.items c.in_default.ensures (all_choices X made cs) c.tries.invariant
+    c.tries.nexts.items c.in_default.ensures.next (all_choices X made cs) c.tries.invariant

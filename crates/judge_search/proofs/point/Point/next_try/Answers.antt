@@ -4,8 +4,8 @@ use Rattle.judge_search.specs.Calls.{calls_of, TellsTry}
 use Rattle.judge_search.proofs.Points.{told_next}
 use Rattle.judge_search.proofs.point.Point.next_try.Goals as goal
 
-pub returns : goal.returns
-returns g c =
+pub returns-clause-next : goal.returns-clause-next
+returns-clause-next g c =
     let self = c.args.self.now in
     let calls = c.args.calls.now in
     told_next (g.M.Object.rules) calls self c.args.from c.next_call.result
@@ -13,3 +13,6 @@ returns g c =
     (calls_of calls.lines.items) c.args.from c.next_call.result)
     c.as_slice.ensures.value c.next_call.ensures.next)
     c.next_call.ensures.small
+
+pub returns-clause-after : goal.returns-clause-after
+returns-clause-after g c = c.next_call.ensures.after

@@ -18,7 +18,7 @@ returns-in_default-clause-steps g c =
     (λ step. (start : Configuration _ _) (steps : ℕ) → Walks (g.M.Object.rules) views start steps self →
     StepsTo (g.M.Object.rules) views start (suc steps) step)
     (λ step h start steps w. h c.args.calls.now start steps (subst (WalksWith (g.M.Object.rules) views start steps self)
-    c.in_default.ensures w))
+    c.in_default.ensures.next w))
     c.go_back.ensures.steps
 
 pub returns-in-Some-2-clause-steps : goal.returns-in-Some-2-clause-steps
@@ -27,7 +27,7 @@ returns-in-Some-2-clause-steps g c =
     let self = c.args.self in
     let place = c.in-Some.place in
     let next = c.in-Some-2.next in
-    let tries = c.in-Some.ensures in
+    let tries = c.in-Some.ensures.next in
     let led = subst (LedTo (g.M.Object.rules) views self.point place) c.in-Some-2.is c.in_ok-next.ensures in
     IfOk-weaker c.go_on.result _
     (λ step. (start : Configuration _ _) (steps : ℕ) → Walks (g.M.Object.rules) views start steps self →
@@ -43,6 +43,6 @@ returns-in-None-clause-steps g c = λ start steps w.
     let place = c.in-Some.place in
     steps_lost (g.M.Object.rules) views start steps self (views.call place) (views.tries self.point (place + 1))
     (tried (g.M.Object.rules) views start steps self (views.call place)
-    (views.tries self.point (place + 1)) c.in-Some.ensures.is w)
-    c.in-Some.ensures.may
+    (views.tries self.point (place + 1)) c.in-Some.ensures.next.is w)
+    c.in-Some.ensures.next.may
     (subst (LedTo (g.M.Object.rules) views self.point place) c.in-None.is c.in_ok-next.ensures)
