@@ -43,26 +43,58 @@ overlap a b x y e l = grind (arith, nat_tests)
 pub client_meets : (c : Span) (earlier : List Span) (end : ℕ) → end_of earlier c.client ≡ Some end → c.begin < end →
     list_any (overlaps itself c) earlier ≡ true
 client_meets c [] end h l = absurd (some_none end (sym h))
-client_meets c (x ∷ xs) end h l = grind (arith, nat_tests, test x.client c.client, some_same x.end end, overlap x.client c.client c.begin x.end, or_true (overlaps itself c x) (list_any (overlaps itself c) xs), client_meets c xs end)
+client_meets c (x ∷ xs) end h l = grind (
+  arith,
+  nat_tests,
+  test x.client c.client,
+  some_same x.end end,
+  overlap x.client c.client c.begin x.end,
+  or_true (overlaps itself c x) (list_any (overlaps itself c) xs),
+  client_meets c xs end,
+)
 
 -- each call of the client was over when this one began
 fits_behind : (c x : Span) (xs : List Span) → EachSpan (IsSpanBehind x) xs → x.client ≡ c.client → x.begin ≤ c.begin →
     list_any (overlaps itself c) xs ≡ false
 fits_behind c x [] h e l = refl
-fits_behind c x (y ∷ ys) h e l = grind (arith, nat_tests, false_both (overlaps itself c y) (list_any (overlaps itself c) ys), turn_test y.client c.client c.begin y.end, fits_behind c x ys h.1 e l)
+fits_behind c x (y ∷ ys) h e l = grind (
+  arith,
+  nat_tests,
+  false_both (overlaps itself c y)
+      (list_any (overlaps itself c) ys),
+  turn_test y.client c.client c.begin y.end,
+  fits_behind c x ys h.1 e l,
+)
 
 -- the newest call of the client was over
 pub client_fits : (c : Span) (earlier : List Span) (end : ℕ) → SpansAreInTurn earlier →
     end_of earlier c.client ≡ Some end →
     end ≤ c.begin → list_any (overlaps itself c) earlier ≡ false
 client_fits c [] end t h l = refl
-client_fits c (x ∷ xs) end t h l = grind (arith, nat_tests, test x.client c.client, some_same x.end end, false_both (overlaps itself c x) (list_any (overlaps itself c) xs), turn_test x.client c.client c.begin x.end, fits_behind c x xs t.1, client_fits c xs end t.2)
+client_fits c (x ∷ xs) end t h l = grind (
+  arith,
+  nat_tests,
+  test x.client c.client,
+  some_same x.end end,
+  false_both (overlaps itself c x) (list_any (overlaps itself c) xs),
+  turn_test x.client c.client c.begin x.end,
+  fits_behind c x xs t.1,
+  client_fits c xs end t.2,
+)
 
 -- the client is new
 pub client_new : (c : Span) (earlier : List Span) → end_of earlier c.client ≡ None →
     list_any (overlaps itself c) earlier ≡ false
 client_new c [] h = refl
-client_new c (x ∷ xs) h = grind (arith, nat_tests, test x.client c.client, some_none x.end, false_both (overlaps itself c x) (list_any (overlaps itself c) xs), turn_test x.client c.client c.begin x.end, client_new c xs)
+client_new c (x ∷ xs) h = grind (
+  arith,
+  nat_tests,
+  test x.client c.client,
+  some_none x.end,
+  false_both (overlaps itself c x) (list_any (overlaps itself c) xs),
+  turn_test x.client c.client c.begin x.end,
+  client_new c xs,
+)
 
 -- whether the client has called
 pub has_called : (c : Span) (earlier : List Span) → is_some (end_of earlier c.client) ≡ list_any
@@ -79,7 +111,14 @@ least_test x y h = grind (arith, nat_tests)
 -- a later call began behind its end
 pub time_meets : (c : Span) (earlier : List Span) → c.end < latest_of earlier → breaks_time itself earlier c ≡ true
 time_meets c [] l = absurd (omega arith)
-time_meets c (x ∷ xs) l = grind (arith, nat_tests, cases_lt c.end x.begin, less_test c.end x.begin, or_true (ended_before itself c x) (breaks_time itself xs c), time_meets c xs)
+time_meets c (x ∷ xs) l = grind (
+  arith,
+  nat_tests,
+  cases_lt c.end x.begin,
+  less_test c.end x.begin,
+  or_true (ended_before itself c x) (breaks_time itself xs c),
+  time_meets c xs,
+)
 
 pub time_fits : (c : Span) (earlier : List Span) → latest_of earlier ≤ c.end → breaks_time itself earlier c ≡ false
 time_fits c [] l = refl
@@ -128,14 +167,26 @@ in_time spans c earlier k l = let is = k.latest_is in time_fits c earlier (omega
 turns_of : (c : Span) (earlier : List Span) → list_any (overlaps itself c) earlier ≡ false →
     EachSpan (IsSpanBehind c) earlier
 turns_of c [] h = tt
-turns_of c (x ∷ xs) h = grind (arith, nat_tests, both_false (overlaps itself c x) (list_any (overlaps itself c) xs) h, turn_from x.client c.client c.begin x.end, turns_of c xs)
+turns_of c (x ∷ xs) h = grind (
+  arith,
+  nat_tests,
+  both_false (overlaps itself c x) (list_any (overlaps itself c) xs) h,
+  turn_from x.client c.client c.begin x.end,
+  turns_of c xs,
+)
 
 own_time : (x y : ℕ) → nat_lt x y ≡ false → y ≤ x
 own_time x y h = grind (arith, nat_tests)
 
 ends_more : (ends : FinMap nat_cmp ℕ) (c : Span) (earlier : List Span) → ((q : ℕ) → get ends q ≡ end_of earlier q) →
     (q : ℕ) → get (insert ends c.client c.end) q ≡ end_of (c ∷ earlier) q
-ends_more ends c earlier k q = grind (arith, nat_tests, test c.client q, get_here ends c.client c.end, get_other ends c.client c.end q)
+ends_more ends c earlier k q = grind (
+  arith,
+  nat_tests,
+  test c.client q,
+  get_here ends c.client c.end,
+  get_other ends c.client c.end q,
+)
 
 -- nothing is wrong: both tests fail
 none_of : (client time : Bool) → cond client (Some Client) (cond time (Some Time) None) ≡ None →

@@ -51,11 +51,23 @@ module _ {O : Type 0} where
   -- the clients are numbered from here on
   none_below : (k n : ℕ) (cs : List (Call O)) → k < n → count k (alone n cs) ≡ 0
   none_below k n [] l = refl
-  none_below k n (c ∷ cs) l = grind (arith, nat_tests, none_below k (n + 1) cs, count_cons k (untimed_as n c) (alone (n + 1) cs))
+  none_below k n (c ∷ cs) l = grind (
+    arith,
+    nat_tests,
+    none_below k (n + 1) cs,
+    count_cons k (untimed_as n c) (alone (n + 1) cs),
+  )
 
   pub alone_apart : (n : ℕ) (cs : List (Call O)) → AreApart (alone n cs)
   alone_apart n [] k = omega arith
-  alone_apart n (c ∷ cs) k = grind (arith, nat_tests, test n k, none_below k (n + 1) cs, count_cons k (untimed_as n c) (alone (n + 1) cs), alone_apart (n + 1) cs k)
+  alone_apart n (c ∷ cs) k = grind (
+    arith,
+    nat_tests,
+    test n k,
+    none_below k (n + 1) cs,
+    count_cons k (untimed_as n c) (alone (n + 1) cs),
+    alone_apart (n + 1) cs k,
+  )
 
   pub untimed_is : (n : ℕ) (c : Call O) → IsUntimed (untimed_as n c)
   untimed_is n c = record { begin = refl; end = ended c.end }
@@ -176,7 +188,11 @@ module _ {S O R : Type 0} (X : Rules S O R) where
       record { order = h.order; orders = h.orders; replies = h.linearization.replies }
 
   pub sequential_is_serializable : SequentialIsSerializable X
-  sequential_is_serializable s calls h = grind (arith, nat_tests, merge_moves calls (h.order ++ h.orders.left) h.orders.merges)
+  sequential_is_serializable s calls h = grind (
+    arith,
+    nat_tests,
+    merge_moves calls (h.order ++ h.orders.left) h.orders.merges,
+  )
 
   -- ---- each client's order alone
 

@@ -148,7 +148,13 @@ module _ {O : Type 0} where
 
   pub count_front : (k : ℕ) (xs ys : List (Call O)) → count k xs ≤ count k (xs ++ ys)
   count_front k [] ys = omega arith
-  count_front k (x ∷ xs) ys = grind (arith, nat_tests, count_front k xs ys, count_cons k x xs, count_cons k x (xs ++ ys))
+  count_front k (x ∷ xs) ys = grind (
+    arith,
+    nat_tests,
+    count_front k xs ys,
+    count_cons k x xs,
+    count_cons k x (xs ++ ys),
+  )
 
   -- calls of no client of these
   no_call : (k : ℕ) (xs : List (Call O)) → count k xs ≡ 0 → of_client k xs ≡ []

@@ -56,12 +56,24 @@ module _ {C : Type 0} where
   none_back : (p : C → Bool) (xs ys : List C) → list_any p xs ≡ false → list_any p ys ≡ false →
       list_any p (reverse_aux xs ys) ≡ false
   none_back p [] ys h g = g
-  none_back p (x ∷ xs) ys h g = grind (arith, nat_tests, both_false (p x) (list_any p xs) h, none_back p xs (x ∷ ys), false_both (p x) (list_any p ys))
+  none_back p (x ∷ xs) ys h g = grind (
+    arith,
+    nat_tests,
+    both_false (p x) (list_any p xs) h,
+    none_back p xs (x ∷ ys),
+    false_both (p x) (list_any p ys),
+  )
 
   none_front : (p : C → Bool) (xs ys : List C) → list_any p (reverse_aux xs ys) ≡ false →
       (list_any p xs ≡ false) × (list_any p ys ≡ false)
   none_front p [] ys h = (refl, h)
-  none_front p (x ∷ xs) ys h = grind (arith, nat_tests, none_front p xs (x ∷ ys) h, both_false (p x) (list_any p ys), false_both (p x) (list_any p xs))
+  none_front p (x ∷ xs) ys h = grind (
+    arith,
+    nat_tests,
+    none_front p xs (x ∷ ys) h,
+    both_false (p x) (list_any p ys),
+    false_both (p x) (list_any p xs),
+  )
 
   none_at : (p : C → Bool) (cs : List C) (i : ℕ) (a : C) → list_any p cs ≡ false → IsAt cs i a → p a ≡ false
   none_at p [] i a h e = absurd (none_some a e)
@@ -102,7 +114,19 @@ module _ {C : Type 0} (span : C → Span) where
 
   pub of_turns : (cs : List C) (c : C) → TakeTurns span (cs ++ c ∷ []) →
       breaks_client span (reverse_aux cs []) c ≡ false
-  of_turns cs c t = grind (arith, nat_tests, t.times (length cs) c (at_last cs c), at_last cs c, none_from, turn_test, at_front cs (c ∷ []), at_inside cs, false_both, time_test, none_back)
+  of_turns cs c t = grind (
+    arith,
+    nat_tests,
+    t.times (length cs) c (at_last cs c),
+    at_last cs c,
+    none_from,
+    turn_test,
+    at_front cs (c ∷ []),
+    at_inside cs,
+    false_both,
+    time_test,
+    none_back,
+  )
 
   pub precedence_of : (cs : List C) (c : C) → TakeTurns span (cs ++ c ∷ []) → KeepPrecedence span cs →
       breaks_time span (reverse_aux cs []) c ≡ false → KeepPrecedence span (cs ++ c ∷ [])
@@ -129,7 +153,17 @@ module _ {C : Type 0} (span : C → Span) where
 
   pub of_precedence : (cs : List C) (c : C) → KeepPrecedence span (cs ++ c ∷ []) →
       breaks_time span (reverse_aux cs []) c ≡ false
-  of_precedence cs c k = grind (arith, nat_tests, none_back, none_from, fails, before_of, at_last cs c, at_front cs (c ∷ []), at_inside cs)
+  of_precedence cs c k = grind (
+    arith,
+    nat_tests,
+    none_back,
+    none_from,
+    fails,
+    before_of,
+    at_last cs c,
+    at_front cs (c ∷ []),
+    at_inside cs,
+  )
 
   -- what the tests say where this is wrong
   abbrev Tests : Bool → Bool → Misplaced → Type 0

@@ -47,9 +47,25 @@ module _ {O : Type 0} where
       a.client ≡ b.client → 2 ≤ count b.client xs
   counted_twice [] i j a b d e l s = absurd (none_some a d)
   counted_twice (x ∷ xs) zero zero a b d e l s = absurd (omega arith)
-  counted_twice (x ∷ xs) zero (suc j) a b d e l s = grind (arith, nat_tests, count x.client (x ∷ xs), count x.client xs, count_own x xs, some_same x a d, count b.client xs, counted_at xs j b e, count b.client (x ∷ xs), count)
+  counted_twice (x ∷ xs) zero (suc j) a b d e l s = grind (
+    arith,
+    nat_tests,
+    count x.client (x ∷ xs),
+    count x.client xs,
+    count_own x xs,
+    some_same x a d,
+    count b.client xs,
+    counted_at xs j b e,
+    count b.client (x ∷ xs),
+    count,
+  )
   counted_twice (x ∷ xs) (suc i) zero a b d e l s = absurd (omega arith)
-  counted_twice (x ∷ xs) (suc i) (suc j) a b d e l s = grind (arith, nat_tests, counted_twice xs i j a b d e, count_less b.client x xs)
+  counted_twice (x ∷ xs) (suc i) (suc j) a b d e l s = grind (
+    arith,
+    nat_tests,
+    counted_twice xs i j a b d e,
+    count_less b.client x xs,
+  )
 
   apart_sequential : (xs : List (Call O)) → AreApart xs → CallsAreSequential xs
   apart_sequential xs h i j a b d e l s =
@@ -91,7 +107,14 @@ module _ {O : Type 0} where
       a.client ≡ b.client → OnlyLastIsPending (of_client a.client (xs ++ ys)) → is_completed a ≡ true
   completed [] ys i j a b d e l s h = absurd (none_some a d)
   completed (x ∷ xs) ys zero zero a b d e l s h = absurd (omega arith)
-  completed (x ∷ xs) ys zero (suc j) a b d e l s h = grind (arith, nat_tests, some_same x a d, some_at xs ys j b e, self x.client, followed x (of_client x.client (xs ++ ys)))
+  completed (x ∷ xs) ys zero (suc j) a b d e l s h = grind (
+    arith,
+    nat_tests,
+    some_same x a d,
+    some_at xs ys j b e,
+    self x.client,
+    followed x (of_client x.client (xs ++ ys)),
+  )
   completed (x ∷ xs) ys (suc i) zero a b d e l s h = absurd (omega arith)
   completed (x ∷ xs) ys (suc i) (suc j) a b d e l s h =
       completed xs ys i j a b d e (omega arith) s (last_rest a.client x (xs ++ ys) h)
@@ -114,4 +137,10 @@ module _ {S O R : Type 0} (X : Rules S O R) (s : S) where
 
   pub last_linearization : (xs ys : List (Call O)) → EachCall IsUntimed xs →
       ((k : ℕ) → OnlyLastIsPending (of_client k (xs ++ ys))) → GiveReplies X s xs → IsLinearization X s xs
-  last_linearization xs ys h last replies = grind (arith, nat_tests, take_time xs h, last_sequential xs ys last h, keep_precedence xs h)
+  last_linearization xs ys h last replies = grind (
+    arith,
+    nat_tests,
+    take_time xs h,
+    last_sequential xs ys last h,
+    keep_precedence xs h,
+  )

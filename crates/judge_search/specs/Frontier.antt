@@ -47,7 +47,8 @@ module _ {S O R : Type 0} (X : Rules S O R) where
 
   -- each configuration is covered to which a call leads that may come next here
   abbrev pub AreNextCovered : List (Configuration S O) → Configuration S O → Type 0
-  AreNextCovered by here = (call : Call O) → Goes X here call → IsCovered by (after_call X here call)
+  AreNextCovered by here =
+      (call : Call O) → Goes X here call → IsCovered by (after_call X here call)
 
   -- where a node is
   abbrev pub node_at : Calls O → Node S → Configuration S O
@@ -62,8 +63,8 @@ module _ {S O R : Type 0} (X : Rules S O R) where
       × (node_at calls next ≡ after_call X (node_at calls node) ((point_views X calls).call place))
       × (next.placed ≡ node.placed + weight ((point_views X calls).call place))
 
-  -- calls lead from a configuration to a node, and as many more completed calls are counted there as
-  -- fewer are left
+  -- calls lead from a configuration to a node, and as many more completed calls are counted there
+  -- as fewer are left
   pub record ComesAfter (calls : Calls O) (from : Configuration S O) (placed : ℕ) (node : Node S) :
       Type 0 where
     pub reached : IsReached X from (node_at calls node)

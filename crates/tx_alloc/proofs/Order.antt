@@ -84,4 +84,11 @@ at_put (r ∷ rs) key b q = grind (arith, nat_tests, at_put rs key b q, cases_lt
 pub at_cut : (rs : Rows) (lo key q : ℕ) → IsFrom lo rs → block_at (cut_row rs key) q ≡ cond (nat_eq key q) 0
     (block_at rs q)
 at_cut [] lo key q h = grind (arith, nat_tests)
-at_cut (r ∷ rs) lo key q h = grind (arith, nat_tests, same_or r.0 key, same_or key q, none_above (r.0 + 1) rs q, at_cut rs (r.0 + 1) key q h.1)
+at_cut (r ∷ rs) lo key q h = grind (
+  arith,
+  nat_tests,
+  same_or r.0 key,
+  same_or key q,
+  none_above (r.0 + 1) rs q,
+  at_cut rs (r.0 + 1) key q h.1,
+)

@@ -31,12 +31,26 @@ cut_chain m m' n p last (a ∷ ys) rest (e, b, h) same z =
 -- a free block is there once
 free_once : (m : ℕ → ℕ) (n i x : ℕ) (free : ℕ → List ℕ) (used : ℕ → ℕ) (count : ℕ) → IsPool m n free used count →
     i < 8 → 0 < held x (free i) → held x (free i) ≡ 1
-free_once m n i x free used count h l o = grind (arith, nat_tests, free_block m n (m (8 + i)) x (free i) (h.lists i l) o, h.lists i l, h.once x, sum_has 8 i)
+free_once m n i x free used count h l o = grind (
+  arith,
+  nat_tests,
+  free_block m n (m (8 + i)) x (free i) (h.lists i l) o,
+  h.lists i l,
+  h.once x,
+  sum_has 8 i,
+)
 
 -- and in one list
 free_apart : (m : ℕ → ℕ) (n i j x : ℕ) (free : ℕ → List ℕ) (used : ℕ → ℕ) (count : ℕ) → IsPool m n free used count →
     i < 8 → j < 8 → i ≢ j → 0 < held x (free i) → held x (free j) ≡ 0
-free_apart m n i j x free used count h l l' ne o = grind (arith, nat_tests, free_block m n (m (8 + i)) x (free i) (h.lists i l) o, h.lists i l, h.once x, sum_two 8 i j)
+free_apart m n i j x free used count h l l' ne o = grind (
+  arith,
+  nat_tests,
+  free_block m n (m (8 + i)) x (free i) (h.lists i l) o,
+  h.lists i l,
+  h.once x,
+  sum_two 8 i j,
+)
 
 -- two lists changed: what left the one is in the other, but for the block that is taken
 move_pool : (m m' : ℕ → ℕ) (n from start b : ℕ) (run rest : List ℕ) (free : ℕ → List ℕ) (used : ℕ → ℕ) (count : ℕ) →
@@ -258,7 +272,16 @@ is_dry s0 s s1 s2 start i from at b next k ni li ls q e nz d d' =
 
 -- of two other lists for one the later counts
 with_one : (f : ℕ → List ℕ) (i j : ℕ) (xs ys : List ℕ) → with_at (with_at f i xs) i ys j ≡ with_at f i ys j
-with_one f i j xs ys = grind (arith, nat_tests, same_or j i, with_here (with_at f i xs) i j ys, with_here f i j ys, with_else (with_at f i xs) i j ys, with_else f i j xs, with_else f i j ys)
+with_one f i j xs ys = grind (
+  arith,
+  nat_tests,
+  same_or j i,
+  with_here (with_at f i xs) i j ys,
+  with_here f i j ys,
+  with_else (with_at f i xs) i j ys,
+  with_else f i j xs,
+  with_else f i j ys,
+)
 
 with_twice : (f : ℕ → List ℕ) (i : ℕ) (xs ys : List ℕ) → with_at (with_at f i xs) i ys ≡ with_at f i ys
 with_twice f i xs ys = λ t j. with_one f i j xs ys t
@@ -348,4 +371,5 @@ drawn_other s0 s s1 s2 s3 start i from at b next k ni li ls q e nz has d d' ws r
 pub own_first : (s0 s s1 s3 : View) (start i at b : ℕ) → Looking s0 s start i → start < 8 → i ≡ 0 →
     at ≡ 8 + (start + i) % 8 → Loaded s s1 at b → Kept s1 s3 → (image : List ℕ) → Sees s3 image →
     mem s0 image (8 + start) ≡ b
-own_first s0 s s1 s3 start i at b k ls z q d k' image seen = grind (arith, nat_tests, at_start s0 s s1, k'.seen image seen)
+own_first s0 s s1 s3 start i at b k ls z q d k' image seen =
+    grind (arith, nat_tests, at_start s0 s s1, k'.seen image seen)

@@ -56,7 +56,19 @@ length_piece zero b = refl
 length_piece (suc k) b = omega (arith, length_piece k (b + 1))
 
 once_there : (n b : ℕ) → b < n → sum_below 8 (λ i. held (16 + 8 * b) (spread_lists n i)) ≡ 1
-once_there n b l = grind (arith, nat_tests, owner n b 8, start_all n, sum_one 8, inside, start_next n, cases_lt, behind, start_grows n, outside)
+once_there n b l = grind (
+  arith,
+  nat_tests,
+  owner n b 8,
+  start_all n,
+  sum_one 8,
+  inside,
+  start_next n,
+  cases_lt,
+  behind,
+  start_grows n,
+  outside,
+)
 
 pub spread_pool : (xs : List ℕ) (n : ℕ) → IsSpreadHeap xs n →
     IsPool (λ (a : ℕ). slice_index xs a) (length xs) (spread_lists n) (λ (x : ℕ). 0) 0

@@ -50,7 +50,14 @@ pub record LiftRooms (n link p q side : ℕ) : Type 0 where
   pub high : side ≤ 2
 
 rooms_at : (m : ℕ → ℕ) (n link p q side : ℕ) → 16 ≤ n → SomeLift m n link p q side → LiftRooms n link p q side
-rooms_at m n link p q side room a = grind (arith, nat_tests, beside_node m n a.root a.total a.way a.right a.colour a.key p q a.other a.tree a.blacks, off_range a.right, link_is a.root a.way, way_block m n a.root)
+rooms_at m n link p q side room a = grind (
+  arith,
+  nat_tests,
+  beside_node m n a.root a.total a.way a.right a.colour a.key p q a.other a.tree a.blacks,
+  off_range a.right,
+  link_is a.root a.way,
+  way_block m n a.root,
+)
 
 pub lift_rooms : (s : View) (link p q side : ℕ) → HasLift s link p q side → ∥ ((image : List ℕ) × RestsOn s image) ∥₁ →
     LiftRooms s.size link p q side
@@ -69,7 +76,14 @@ lift_rooms s link p q side h ws =
 
 pub leads_outer : (s : View) (link p q side : ℕ) → HasLift s link p q side → ∥ ((image : List ℕ) × RestsOn s image) ∥₁ →
     LeadsToBlock s (q + (3 - side))
-leads_outer s link p q side h ws = grind (arith, nat_tests, lift_rooms s link p q side h ws, beside_node, off_across, pointer)
+leads_outer s link p q side h ws = grind (
+  arith,
+  nat_tests,
+  lift_rooms s link p q side h ws,
+  beside_node,
+  off_across,
+  pointer,
+)
 
 pub leads_inner : (s : View) (link p q side : ℕ) → HasLift s link p q side → ∥ ((image : List ℕ) × RestsOn s image) ∥₁ →
     LeadsToBlock s (q + side)
@@ -126,7 +140,16 @@ pub record NoneSeen (s s4 : View) (q side : ℕ) : Type 0 where
 pub none_seen : (s s1 s2 s3 s4 : View) (q side z y : ℕ) (red red' : Bool) → Reached s s1 (q + (3 - side)) z →
     Coloured s1 s2 z red → red ≡ false → Reached s2 s3 (q + side) y → Coloured s3 s4 y red' → red' ≡ false →
     NoneSeen s s4 q side
-none_seen s s1 s2 s3 s4 q side z y red red' r c e r' c' e' = grind (arith, nat_tests, kept_both s s2 s4 (kept_both s s1 s2 r.loaded.kept c.kept) (kept_both s2 s3 s4 r'.loaded.kept c'.kept), kept_both s s1 s2 r.loaded.kept c.kept, kept_both s2 s3 s4 r'.loaded.kept c'.kept, at_start s s2 s3 (q + side) y)
+none_seen s s1 s2 s3 s4 q side z y red red' r c e r' c' e' =
+    grind (
+      arith,
+      nat_tests,
+      kept_both s s2 s4 (kept_both s s1 s2 r.loaded.kept c.kept)
+          (kept_both s2 s3 s4 r'.loaded.kept c'.kept),
+      kept_both s s1 s2 r.loaded.kept c.kept,
+      kept_both s2 s3 s4 r'.loaded.kept c'.kept,
+      at_start s s2 s3 (q + side) y,
+    )
 
 pub lifted_red : (s s4 s5 s6 s7 : View) (link p q side : ℕ) (red : Bool) → NoneSeen s s4 q side → Coloured s4 s5 p red →
     red ≡ true → Stored s5 s6 (q + 3) 1 → Stored s6 s7 (p + 3) 0 → Lifted s s7 link p q side true
@@ -176,14 +199,28 @@ pub record OneUp (m : ℕ → ℕ) (n root : ℕ) (total : ℕ → ℕ) (xs : Li
 pub one_up : (m : ℕ → ℕ) (n root : ℕ) (total : ℕ → ℕ) (xs : List ℕ) (d : ℕ) (w : Way) (t : Tree) (h : ℕ) →
     ShortAt m n root total xs d w t h → 1 ≤ d → OneUp m n root total xs d w t h
 one_up m n root total xs d top t h a one = absurd (omega (arith, a.deep))
-one_up m n root total xs d (step right c (k, b) o w) t h a one = grind (arith, nat_tests, link_at n (slice_index xs d) b right a.zip.way.0.block (ap (slice_index xs) a.deep ∙ a.path.0), up, path_at xs root w a.path.1)
+one_up m n root total xs d (step right c (k, b) o w) t h a one =
+    grind (
+      arith,
+      nat_tests,
+      link_at n (slice_index xs d) b right a.zip.way.0.block
+          (ap (slice_index xs) a.deep ∙ a.path.0),
+      up,
+      path_at xs root w a.path.1,
+    )
 
 pub lift_at : (m : ℕ → ℕ) (n root : ℕ) (total : ℕ → ℕ) (xs : List ℕ) (d q : ℕ) (w : Way) (t : Tree) (h : ℕ) →
     (a : ShortAt m n root total xs d w t h) → (u : OneUp m n root total xs d w t h) →
     m (slice_index xs d - slice_index xs d % 8 + (3 - slice_index xs d % 8)) ≡ q → (q ≢ 0 → m (q + 3) ≢ 1) →
     LiftAt m n root total (slice_index xs (d - 1)) (slice_index xs d - slice_index xs d % 8) q
     (slice_index xs d % 8) u.up u.right u.colour u.key u.other t h
-lift_at m n root total xs d q w t h a u e never = grind (arith, nat_tests, off_across u.right, link_is, not_red m n q u.other)
+lift_at m n root total xs d q w t h a u e never = grind (
+  arith,
+  nat_tests,
+  off_across u.right,
+  link_is,
+  not_red m n q u.other,
+)
 
 -- a red node beside comes up
 pub record RedStep (m m1 : ℕ → ℕ) (n root : ℕ) (total : ℕ → ℕ) (q p side : ℕ) (w : Way) (t : Tree) (h : ℕ) :

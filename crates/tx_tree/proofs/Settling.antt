@@ -130,7 +130,16 @@ pub reds : (s s1 s2 s3 : View) (xs : List ℕ) (d u : ℕ) (red red' : Bool) →
     Coloured s s1 (slice_index xs d - slice_index xs d % 8) red → red ≡ true →
     Reached s1 s2 (slice_index xs (d - 1) - slice_index xs (d - 1) % 8 + (3 - slice_index xs (d - 1) % 8)) u →
     Coloured s2 s3 u red' → red' ≡ true → Reds s s3 xs d u
-reds s s1 s2 s3 xs d u red red' c e r c' e' = grind (arith, nat_tests, kept_both s s2 s3 (kept_both s s1 s2 c.kept r.loaded.kept) c'.kept, kept_both s s1 s2 c.kept r.loaded.kept, c'.there e', c.is_one e, at_start s s1 s2, c'.is_one e')
+reds s s1 s2 s3 xs d u red red' c e r c' e' = grind (
+  arith,
+  nat_tests,
+  kept_both s s2 s3 (kept_both s s1 s2 c.kept r.loaded.kept) c'.kept,
+  kept_both s s1 s2 c.kept r.loaded.kept,
+  c'.there e',
+  c.is_one e,
+  at_start s s1 s2,
+  c'.is_one e',
+)
 
 pub settle_step : (s0 s s3 s4 s5 s6 : View) (xs : List ℕ) (d0 b0 d b u : ℕ) → Settling s0 s xs d0 b0 d b → 2 ≤ d →
     Reds s s3 xs d u → Stored s3 s4 (slice_index xs d - slice_index xs d % 8 + 3) 0 → Stored s4 s5 (u + 3) 0 →

@@ -32,7 +32,13 @@ touch_root m m' root total v w = record { others = λ x ne out. w.others x ne }
 
 pub touch_link : (m m' : ℕ → ℕ) (root : ℕ) (total : ℕ → ℕ) (w : Way) (v : ℕ) → IsWrite m m' (link_of root w) v →
     ((x : ℕ) → way_has x w ≤ total x) → Touches m m' root total
-touch_link m m' root total w v write all = grind (arith, nat_tests, link_is root w, touch_root m m' root total v, touch_block m m' root total)
+touch_link m m' root total w v write all = grind (
+  arith,
+  nat_tests,
+  link_is root w,
+  touch_root m m' root total v,
+  touch_block m m' root total,
+)
 
 -- facts of a node at the end of a way
 pub record AtNode (m : ℕ → ℕ) (n root : ℕ) (total : ℕ → ℕ) (w : Way) (b : ℕ) : Type 0 where

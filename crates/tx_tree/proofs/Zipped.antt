@@ -45,11 +45,28 @@ hangs_frame m m' n p (node c l (k, a) t) same (i, (hl, ht)) =
 
 pub has_block : (m : ℕ → ℕ) (n p x : ℕ) (t : Tree) → Hangs m n p t → 0 < has x t → IsBlock n x
 has_block m n p x leaf h i = absurd (omega arith)
-has_block m n p x (node c l (k, a) t) (r, (hl, ht)) i = grind (arith, nat_tests, cases_lt 0 (has x l), has_block m n (m (a + 1)) x l hl, cases_lt 0 (has x t), has_block m n (m (a + 2)) x t ht, self_one k a x)
+has_block m n p x (node c l (k, a) t) (r, (hl, ht)) i = grind (
+  arith,
+  nat_tests,
+  cases_lt 0 (has x l),
+  has_block m n (m (a + 1)) x l hl,
+  cases_lt 0 (has x t),
+  has_block m n (m (a + 2)) x t ht,
+  self_one k a x,
+)
 
 pub way_block : (m : ℕ → ℕ) (n root x : ℕ) (w : Way) → HangsWay m n root w → 0 < way_has x w → IsBlock n x
 way_block m n root x top h i = absurd (omega arith)
-way_block m n root x (step right c (k, a) o w) (r, (ho, hw)) i = grind (arith, nat_tests, cases_lt 0 (has x o), has_block m n (m (a + off (not right))) x o ho, cases_lt 0 (way_has x w), way_block m n root x w hw, self_one k a x)
+way_block m n root x (step right c (k, a) o w) (r, (ho, hw)) i =
+    grind (
+      arith,
+      nat_tests,
+      cases_lt 0 (has x o),
+      has_block m n (m (a + off (not right))) x o ho,
+      cases_lt 0 (way_has x w),
+      way_block m n root x w hw,
+      self_one k a x,
+    )
 
 -- the word that leads to the hole is the root, or a linking word of a block of the way
 pub record InBlock (w : Way) (x : ℕ) : Type 0 where
@@ -142,11 +159,21 @@ has_join true c near r far x = omega arith
 -- the hole goes down, or up
 pub down : (m : ℕ → ℕ) (n root : ℕ) (total : ℕ → ℕ) (w : Way) (right c : Bool) (near : Tree) (r : ℕ × ℕ) (far : Tree) →
     Zip m n root total w (join right c near r far) → Zip m n root total (step right c r far w) near
-down m n root total w right c near r far z = grind (arith, nat_tests, joined m n (m (link_of root w)) right c near r far z.tree, has_join right c near r far)
+down m n root total w right c near r far z = grind (
+  arith,
+  nat_tests,
+  joined m n (m (link_of root w)) right c near r far z.tree,
+  has_join right c near r far,
+)
 
 pub up : (m : ℕ → ℕ) (n root : ℕ) (total : ℕ → ℕ) (w : Way) (right c : Bool) (near : Tree) (r : ℕ × ℕ) (far : Tree) →
     Zip m n root total (step right c r far w) near → Zip m n root total w (join right c near r far)
-up m n root total w right c near r far z = grind (arith, nat_tests, rejoined m n (m (link_of root w)) right c near r far, has_join right c near r far)
+up m n root total w right c near r far z = grind (
+  arith,
+  nat_tests,
+  rejoined m n (m (link_of root w)) right c near r far,
+  has_join right c near r far,
+)
 
 pub up_under : (m : ℕ → ℕ) (n root : ℕ) (total : ℕ → ℕ) (v w : Way) (t : Tree) → Zip m n root total (under v w) t →
     Zip m n root total w (plug v t)

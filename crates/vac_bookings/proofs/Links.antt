@@ -65,7 +65,8 @@ put_linked m m' n l lo key b x ((j, a) ∷ rs) h link own k out low none w e = e
   | inl below ↦ (
       let f = link_behind m n l j a key rs link h.0.block h.1 in
       let ih = put_linked m m' n (a + 3) (j + 1) key b x rs h.1 (link_next m n a j (m (a + 3)) rs h.0.block h.0.key h.1)
-      (grind (arith, nat_tests)) k (omega arith) (omega arith) (grind (arith, nat_tests)) w (grind (arith, nat_tests)) in
+      (grind (arith, nat_tests)) k (omega arith) (omega arith) (grind (arith, nat_tests)) w
+      (grind (arith, nat_tests)) in
       grind (arith, nat_tests, w.others l, w.others (a + 0), w.others (a + 1)))
   | inr here ↦ (
       let fr = linked_frame m m' n (m l) (key + 1) ((j, a) ∷ rs) (λ z i.

@@ -86,9 +86,11 @@ module _ (s0 s s1 s2 : View) (head : ℕ) (key : Key) (link low p : ℕ) (order 
       Pointed (mem s0 image) (length image) head link low (code_of key) p rs ×
       Coded (mem s0 image (p + 0)) (mem s0 image (p + 1)) key.kind key.id order
   here image rs seen h =
-      let t = at_word s0 s s1 head (code_of key) link low p k l image rs (r.kept.seen image seen) h in
-      (t, coded (mem s0 image (p + 0)) (mem s0 image (p + 1)) key.kind key.id order (t.block ne).1.1 is_key.1
-          (rw (l.writes ∙ k.writes) at (r.is image seen)))
+      let t = at_word s0 s s1 head (code_of key) link low p k l image rs (r.kept.seen image seen) h in (
+        t,
+        coded (mem s0 image (p + 0)) (mem s0 image (p + 1)) key.kind key.id order (t.block ne).1.1 is_key.1
+            (rw (l.writes ∙ k.writes) at (r.is image seen)),
+      )
 
   -- a block that is passed has a lower key
   pub seek_below : order ≡ Less → SomeImage s2 → low + 1 ≤ code_of key

@@ -30,7 +30,13 @@ table_size s Room = omega arith
 items_fit : (s : State) (small : IsSmall s) (f : Item → ℕ) → ((i : Item) → i.used + i.free ≡ i.total → f i ≤ i.total) →
     (kind : Kind)
     → sum_by f (values (table_of s kind)) < 2 ^ 60
-items_fit s small f below kind = grind (arith, nat_tests, small.balanced.items kind, sum_le nat_cmp_total nat_cmp-IsAntisymmetric f 1000000000 (table_of s kind), table_size s kind)
+items_fit s small f below kind = grind (
+  arith,
+  nat_tests,
+  small.balanced.items kind,
+  sum_le nat_cmp_total nat_cmp-IsAntisymmetric f 1000000000 (table_of s kind),
+  table_size s kind,
+)
 
 -- a customer's units and bill are bounded by the number of bookings
 units_fit : (s : State) (small : IsSmall s) (c : ℕ) (b : Bookings) → bookings_of s c ≡ Some b →
@@ -47,7 +53,22 @@ bill_fits s small c b h =
 
 -- one bill fits
 pub bill_small : (s : State) (c : ℕ) (b : Bookings) → IsSmall s → bookings_of s c ≡ Some b → bill_of b < 2 ^ 64
-bill_small s c b small h = grind (arith, nat_tests, sum-remove nat_cmp_total nat_cmp-IsAntisymmetric len s.customers c b h, bill_fits s small c b h)
+bill_small s c b small h = grind (
+  arith,
+  nat_tests,
+  sum-remove nat_cmp_total nat_cmp-IsAntisymmetric len s.customers c b
+      h,
+  bill_fits s small c b h,
+)
 
 pub small_sums : (s : State) → IsSmall s → HasSmallSums s
-small_sums s small = grind (arith, nat_tests, items_fit s small, sum_le_by nat_cmp_total nat_cmp-IsAntisymmetric units_booked len 10000 s.customers (units_fit s small), units_fit s small, sum_le_by nat_cmp_total nat_cmp-IsAntisymmetric bill_of len 10000000000 s.customers (bill_fits s small), bill_fits s small)
+small_sums s small = grind (
+  arith,
+  nat_tests,
+  items_fit s small,
+  sum_le_by nat_cmp_total nat_cmp-IsAntisymmetric units_booked len 10000 s.customers (units_fit s small),
+  units_fit s small,
+  sum_le_by nat_cmp_total nat_cmp-IsAntisymmetric bill_of len 10000000000 s.customers
+      (bill_fits s small),
+  bill_fits s small,
+)

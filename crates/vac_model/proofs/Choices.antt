@@ -27,7 +27,13 @@ ids_of : (s : State) (kind : Kind) (asks : List Place) (best : Option Choice) �
     → HasId (fold (λ best ask. if kind_number ask.0 == kind_number kind then dearer best ask.1
     (price_of s ask.0 ask.1) else best) best asks)
 ids_of s kind [] best h e = h
-ids_of s kind (ask ∷ asks) best h e = grind (arith, nat_tests, both_true (is_id ask.1) (list_all (λ ask. is_id ask.1) asks) e, dearer_id best ask.1 (price_of s ask.0 ask.1) h, ids_of s kind asks)
+ids_of s kind (ask ∷ asks) best h e = grind (
+  arith,
+  nat_tests,
+  both_true (is_id ask.1) (list_all (λ ask. is_id ask.1) asks) e,
+  dearer_id best ask.1 (price_of s ask.0 ask.1) h,
+  ids_of s kind asks,
+)
 
 pub choice_id : (s : State) (kind : Kind) (asks : List Place) → list_all (λ ask. is_id ask.1) asks ≡ true →
     HasId (choice_of s kind asks)

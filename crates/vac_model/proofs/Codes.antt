@@ -238,4 +238,11 @@ reply_back (reply.Update u) rest =
 
 -- no two pairs of a task and a reply have one code
 pub code_determines : (t t' : Task) (r r' : Reply) → code t r ≡ code t' r' → (t ≡ t') × (r ≡ r')
-code_determines t t' r r' e = grind (arith, nat_tests, task_back t (reply_code r), task_back t' (reply_code r'), reply_back r [], reply_back r' [])
+code_determines t t' r r' e = grind (
+  arith,
+  nat_tests,
+  task_back t (reply_code r),
+  task_back t' (reply_code r'),
+  reply_back r [],
+  reply_back r' [],
+)

@@ -32,4 +32,5 @@ pub units-used : (s : State) (customer : ℕ) (bookings : Bookings) (kind : Kind
     IsBalanced s
     → bookings_of s customer ≡ Some bookings → item_of s kind id ≡ Some item → get bookings (kind, id) ≡ Some b →
     b.units ≤ item.used
-units-used s customer bookings kind id item b balanced h there e = grind (arith, nat_tests, units_of-used s customer bookings kind id item balanced h there)
+units-used s customer bookings kind id item b balanced h there e =
+    grind (arith, nat_tests, units_of-used s customer bookings kind id item balanced h there)

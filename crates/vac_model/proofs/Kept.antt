@@ -72,12 +72,35 @@ add_new_follows : (s : State) (kind : Kind) (id num : ℕ) (price : Option ℕ) 
     is_amount num ≡ true → is_optional_amount price ≡ true
     → item_of s kind id ≡ None → Follows s (add_new s kind id num price)
 add_new_follows s kind id num None balanced ids few cheap none = stays s _ balanced refl
-add_new_follows s kind id num (Some price) balanced ids few cheap none = grind (arith, nat_tests, if_both, stays s, eq_false num 0, le_true num 1000000 few, le_false s.capacity (size s), balanced-new_item s kind id num price balanced ids, le_true price 1000000 cheap, put_capacity s kind id (new_item num price))
+add_new_follows s kind id num (Some price) balanced ids few cheap none =
+    grind (
+      arith,
+      nat_tests,
+      if_both,
+      stays s,
+      eq_false num 0,
+      le_true num 1000000 few,
+      le_false s.capacity (size s),
+      balanced-new_item s kind id num price balanced ids,
+      le_true price 1000000 cheap,
+      put_capacity s kind id (new_item num price),
+    )
 
 add_more_follows : (s : State) (kind : Kind) (id num : ℕ) (price : Option ℕ) (item : Item) → IsBalanced s →
     is_optional_amount price ≡ true
     → item_of s kind id ≡ Some item → Follows s (add_more s kind id num price item)
-add_more_follows s kind id num price item balanced cheap there = grind (arith, nat_tests, if_both, stays s, balanced.items kind id item there, lt_false total_limit (item.total + num), balanced-replaced s kind id (added item num price) item balanced there, put_capacity s kind id (added item num price), le_true)
+add_more_follows s kind id num price item balanced cheap there =
+    grind (
+      arith,
+      nat_tests,
+      if_both,
+      stays s,
+      balanced.items kind id item there,
+      lt_false total_limit (item.total + num),
+      balanced-replaced s kind id (added item num price) item balanced there,
+      put_capacity s kind id (added item num price),
+      le_true,
+    )
 
 delete_follows : (s : State) (kind : Kind) (id num : ℕ) → IsBalanced s → Follows s (delete s kind id num)
 delete_follows s kind id num balanced =
@@ -97,13 +120,36 @@ delete_follows s kind id num balanced =
     })))
 
 drop_flight_follows : (s : State) (id : ℕ) → IsBalanced s → Follows s (drop_flight s id)
-drop_flight_follows s id balanced = grind (arith, nat_tests, found_both, stays s, if_both, balanced-without_item s Flight id, lt_false 0)
+drop_flight_follows s id balanced = grind (
+  arith,
+  nat_tests,
+  found_both,
+  stays s,
+  if_both,
+  balanced-without_item s Flight id,
+  lt_false 0,
+)
 
 new_customer_follows : (s : State) (id : ℕ) → IsBalanced s → is_id id ≡ true → Follows s (new_customer s id)
-new_customer_follows s id balanced ids = grind (arith, nat_tests, found_both, if_both, stays s, balanced-new_customer s id balanced ids, le_false s.capacity (size s))
+new_customer_follows s id balanced ids = grind (
+  arith,
+  nat_tests,
+  found_both,
+  if_both,
+  stays s,
+  balanced-new_customer s id balanced ids,
+  le_false s.capacity (size s),
+)
 
 drop_customer_follows : (s : State) (id : ℕ) → IsBalanced s → Follows s (drop_customer s id)
-drop_customer_follows s id balanced = grind (arith, nat_tests, found_both, stays s, balanced-departed s id, leaves (without_customer s id))
+drop_customer_follows s id balanced = grind (
+  arith,
+  nat_tests,
+  found_both,
+  stays s,
+  balanced-departed s id,
+  leaves (without_customer s id),
+)
 
 units_found : (b : Bookings) (place : Place) (x : Booking) → get b place ≡ Some x → units_of b place ≡ x.units
 units_found b place x e = ap (λ o. option_map_or {T = Booking} (λ y. y.units) o 0) e
@@ -173,7 +219,16 @@ module _ (s : State) (c : ℕ) (kind : Kind) (id num : ℕ) (b : Bookings) (item
 
 reserve_follows : (s : State) (c : ℕ) (kind : Kind) (id num : ℕ) → IsBalanced s → 1 ≤ num → num ≤ 100 →
     Follows s (reserve s c kind id num)
-reserve_follows s c kind id num balanced some few = grind (arith, nat_tests, found_both, stays s, if_both, lt_false, book_new_follows s c kind id num, book_more_follows s c kind id num)
+reserve_follows s c kind id num balanced some few = grind (
+  arith,
+  nat_tests,
+  found_both,
+  stays s,
+  if_both,
+  lt_false,
+  book_new_follows s c kind id num,
+  book_more_follows s c kind id num,
+)
 
 cancel_follows : (s : State) (c : ℕ) (kind : Kind) (id : ℕ) → IsBalanced s → Follows s (cancel s c kind id)
 cancel_follows s c kind id balanced =
@@ -205,7 +260,15 @@ cancel_follows s c kind id balanced =
 
 -- every command whose numbers are in their ranges keeps a state balanced
 pub step_follows : (s : State) (c : Command) → IsBalanced s → is_command c ≡ true → Follows s (step s c)
-step_follows s (command.Add kind id num price) balanced e = grind (arith, nat_tests, both_true (is_id id && is_amount num) (is_optional_amount price) e, both_true (is_id id) (is_amount num), found_both, add_new_follows s kind id num price balanced, add_more_follows s kind id num price)
+step_follows s (command.Add kind id num price) balanced e = grind (
+  arith,
+  nat_tests,
+  both_true (is_id id && is_amount num) (is_optional_amount price) e,
+  both_true (is_id id) (is_amount num),
+  found_both,
+  add_new_follows s kind id num price balanced,
+  add_more_follows s kind id num price,
+)
 step_follows s (command.Delete kind id num) balanced e = delete_follows s kind id num balanced
 step_follows s (command.DropFlight id) balanced e = drop_flight_follows s id balanced
 step_follows s (command.NewCustomer id) balanced e = new_customer_follows s id balanced e
@@ -213,7 +276,16 @@ step_follows s (command.DropCustomer id) balanced e = drop_customer_follows s id
 step_follows s (command.Free kind id) balanced e = stays s _ balanced refl
 step_follows s (command.Price kind id) balanced e = stays s _ balanced refl
 step_follows s (command.Bill id) balanced e = stays s _ balanced refl
-step_follows s (command.Reserve customer kind id num) balanced e = grind (arith, nat_tests, both_true (is_id customer && is_id id) (is_unit_count num) e, both_true (nat_le 1 num) (nat_le num 100), reserve_follows s customer kind id num balanced, le_true 1 num, le_true num 100)
+step_follows s (command.Reserve customer kind id num) balanced e =
+    grind (
+      arith,
+      nat_tests,
+      both_true (is_id customer && is_id id) (is_unit_count num) e,
+      both_true (nat_le 1 num) (nat_le num 100),
+      reserve_follows s customer kind id num balanced,
+      le_true 1 num,
+      le_true num 100,
+    )
 step_follows s (command.Cancel customer kind id) balanced e = cancel_follows s customer kind id balanced
 step_follows s command.Audit balanced e = stays s _ balanced refl
 

@@ -36,7 +36,14 @@ add_new_untouched s kind id num None = λ why e. refl
 add_new_untouched s kind id num (Some price) = grind (arith, nat_tests, if_both, never_done)
 
 pub step_untouched : (s : State) (c : Command) → Untouched s (step s c)
-step_untouched s (command.Add kind id num price) = grind (arith, nat_tests, found_both, add_new_untouched s kind id num price, if_both, never_done)
+step_untouched s (command.Add kind id num price) = grind (
+  arith,
+  nat_tests,
+  found_both,
+  add_new_untouched s kind id num price,
+  if_both,
+  never_done,
+)
 step_untouched s (command.Delete kind id num) = grind (arith, nat_tests, found_both, if_both, never_done)
 step_untouched s (command.DropFlight id) = grind (arith, nat_tests, found_both, if_both, never_done)
 step_untouched s (command.NewCustomer id) = grind (arith, nat_tests, found_both, if_both, never_done)

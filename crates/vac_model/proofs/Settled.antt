@@ -25,7 +25,11 @@ use Rattle.vac_model.proofs.Kept.{found_both, if_both}
 pub cancelled : (s : State) (c : ℕ) (kind : Kind) (id : ℕ) (bookings : Bookings) (b : Booking) (item : Item)
     → bookings_of s c ≡ Some bookings → item_of s kind id ≡ Some item → get bookings (kind, id) ≡ Some b
     → item_of (step s (command.Cancel c kind id)).0 kind id ≡ Some (given_back item b.units)
-cancelled s c kind id bookings b item h there found = grind (arith, nat_tests, item_here (with_bookings s c (remove bookings (kind, id))) kind id (given_back item b.units))
+cancelled s c kind id bookings b item h there found = grind (
+  arith,
+  nat_tests,
+  item_here (with_bookings s c (remove bookings (kind, id))) kind id (given_back item b.units),
+)
 
 pub dropped : (s : State) (c : ℕ) (bookings : Bookings) (kind : Kind) (id : ℕ) → bookings_of s c ≡ Some bookings
     → item_of (step s (command.DropCustomer c)).0 kind id ≡ option_map
@@ -91,9 +95,21 @@ SameBookings s o = (c : ℕ) → bookings_of o.0 c ≡ bookings_of s c
 
 added_new : (s : State) (kind : Kind) (id num : ℕ) (price : Option ℕ) → SameBookings s (add_new s kind id num price)
 added_new s kind id num None = λ c. refl
-added_new s kind id num (Some price) = grind (arith, nat_tests, if_both, bookings-with_item s kind id (new_item num price))
+added_new s kind id num (Some price) = grind (
+  arith,
+  nat_tests,
+  if_both,
+  bookings-with_item s kind id (new_item num price),
+)
 
 -- a price that is replaced changes no bill
 pub bookings-add : (s : State) (kind : Kind) (id num : ℕ) (price : Option ℕ) →
     SameBookings s (step s (command.Add kind id num price))
-bookings-add s kind id num price = grind (arith, nat_tests, found_both, added_new s kind id num price, if_both, bookings-with_item s kind id)
+bookings-add s kind id num price = grind (
+  arith,
+  nat_tests,
+  found_both,
+  added_new s kind id num price,
+  if_both,
+  bookings-with_item s kind id,
+)

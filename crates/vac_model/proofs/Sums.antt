@@ -152,7 +152,13 @@ module _ {K X : Type 0} {R : K → K → Ordering} (o : IsTotalOrder R) (same : 
   len_pushed m k v h = map.len-insert o m k v ∙ ap (λ e. cond (is_some e) (len m) (len m + 1)) h
 
   pub len_removed : (m : FinMap R X) (k : K) (v : X) → get m k ≡ Some v → len (remove m k) + 1 ≡ len m
-  len_removed m k v h = grind (arith, nat_tests, len_pushed (remove m k) k v (get_removed m k), get_removed m k, insert-remove m k v h)
+  len_removed m k v h = grind (
+    arith,
+    nat_tests,
+    len_pushed (remove m k) k v (get_removed m k),
+    get_removed m k,
+    insert-remove m k v h,
+  )
 
   pub get_elsewhere : (m : FinMap R X) (k : K) (v : X) (q : K) → q ≢ k → get (insert m k v) q ≡ get m q
   get_elsewhere m k v q apart = map.get-insert o m k v q ∙ ap (λ b. cond b (Some v) (get m q))

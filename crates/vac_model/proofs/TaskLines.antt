@@ -54,4 +54,10 @@ change_more changes i d h =
 pub changes_spaced : (first : Command) (rest : List Command) →
     (codes " " ++ words_text (command_words first)) ++ flat_map (λ c. spaced (further_words c)) rest
     ≡ spaced (changes_words (first ∷ rest))
-changes_spaced first rest = grind (arith, nat_tests, command_spaced first, spaced_each further_words rest, spaced_both (command_words first) (flat_map further_words rest))
+changes_spaced first rest = grind (
+  arith,
+  nat_tests,
+  command_spaced first,
+  spaced_each further_words rest,
+  spaced_both (command_words first) (flat_map further_words rest),
+)

@@ -75,12 +75,36 @@ leave_follows s customer balanced e =
 steps_keep : (s : State) (cs : List Command) → IsBalanced s → list_all (λ c. is_change c && is_command c) cs ≡ true →
     Keeps s (steps s cs).0
 steps_keep s [] balanced e = record { balanced = balanced; capacity = refl }
-steps_keep s (c ∷ cs) balanced e = grind (arith, nat_tests, both_true (is_change c && is_command c) (list_all (λ c. is_change c && is_command c) cs) e, both_true (is_change c) (is_command c), step_keeps s c balanced, then_keeps s (step s c).0, steps_keep (step s c).0 cs)
+steps_keep s (c ∷ cs) balanced e = grind (
+  arith,
+  nat_tests,
+  both_true (is_change c && is_command c)
+      (list_all (λ c. is_change c && is_command c) cs) e,
+  both_true (is_change c) (is_command c),
+  step_keeps s c balanced,
+  then_keeps s (step s c).0,
+  steps_keep (step s c).0 cs,
+)
 
 -- every valid task keeps a state balanced, and its capacity
 pub run_keeps : (s : State) (t : Task) → IsBalanced s → is_task t ≡ true → Keeps s (run s t).0
 run_keeps s (task.One c) balanced e = step_keeps s c balanced e
-run_keeps s (task.Trip customer asks) balanced e = grind (arith, nat_tests, both_true (is_id customer && is_list_length (length asks)), both_true (is_id customer) (is_list_length (length asks)), trip_keeps s customer (choice_of s Car asks) (choice_of s Flight asks) (choice_of s Room asks) (is_some (choice_of s Car asks) || is_some (choice_of s Flight asks) || is_some (choice_of s Room asks)) balanced, choice_id s Car asks, choice_id s Flight asks, choice_id s Room asks)
+run_keeps s (task.Trip customer asks) balanced e = grind (
+  arith,
+  nat_tests,
+  both_true (is_id customer && is_list_length (length asks)),
+  both_true (is_id customer) (is_list_length (length asks)),
+  trip_keeps s customer (choice_of s Car asks) (choice_of s Flight asks) (choice_of s Room asks)
+      (is_some (choice_of s Car asks) || is_some (choice_of s Flight asks) || is_some (choice_of s Room asks)) balanced,
+  choice_id s Car asks,
+  choice_id s Flight asks,
+  choice_id s Room asks,
+)
 run_keeps s (task.Leave customer) balanced e = let f = leave_follows s customer balanced e in
     record { balanced = f.balanced; capacity = f.capacity }
-run_keeps s (task.Update changes) balanced e = grind (arith, nat_tests, both_true (is_list_length (length changes)), steps_keep s changes balanced)
+run_keeps s (task.Update changes) balanced e = grind (
+  arith,
+  nat_tests,
+  both_true (is_list_length (length changes)),
+  steps_keep s changes balanced,
+)

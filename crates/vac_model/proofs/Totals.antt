@@ -34,7 +34,15 @@ module _ {K X : Type 0} (R : K → K → Ordering) where
   sum-put : (f : K × X → ℕ) (k : K) (v : X) (es : List (K × X)) → find R k es ≡ None →
       sum_by f (put R k v es) ≡ sum_by f es + f (k, v)
   sum-put f k v [] none = omega (arith, sum_by-cons f (k, v) [])
-  sum-put f k v (e ∷ es) none = grind (arith, nat_tests, sum_by-cons f (k, v) (e ∷ es), sum_by-cons f e, sum_by-cons f e es, sum-put f k v es, later k e es)
+  sum-put f k v (e ∷ es) none = grind (
+    arith,
+    nat_tests,
+    sum_by-cons f (k, v) (e ∷ es),
+    sum_by-cons f e,
+    sum_by-cons f e es,
+    sum-put f k v es,
+    later k e es,
+  )
 
 -- a number of each key, added up
 abbrev key_sum : {K X : Type 0} {R : K → K → Ordering} → (K → ℕ) → FinMap R X → ℕ

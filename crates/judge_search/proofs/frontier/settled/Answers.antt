@@ -3,7 +3,8 @@ use Rattle.judge_search.specs.Point.{point_views}
 use Rattle.judge_search.specs.Frontier.{NodeLedTo, Settles}
 use Rattle.judge_search.proofs.Fronts.{settles_itself, settles_more}
 use Rattle.judge_search.proofs.frontier.settled.Goals as goal
-use Rattle.judge_search.proofs.frontier.settled.Goals.{then-is_read+in_ok-next+in-Some-2, then-is_read+in_ok-next+in_default-2}
+use Rattle.judge_search.proofs.frontier.settled.Goals.{then-is_read+in_ok-next+in-Some-2}
+use Rattle.judge_search.proofs.frontier.settled.Goals.{then-is_read+in_ok-next+in_default-2}
 use Rattle.judge_search.proofs.frontier.settled.Goals.{else-is_read}
 
 pub tries-init : goal.tries-init
