@@ -31,6 +31,8 @@ KEEP = object()
 STATUSES, STOPPED = {b"legal": 0, b"illegal": 1, b"fault": 1, b"undecided": 3, b"touching": 3}, 2
 # What the program may take beside the text and for each call, in bytes.
 MOST_BESIDE, MOST_EACH = 64 << 20, 512
+# What the program may take for a search among calls that overlap, in bytes.
+MOST_SEARCH = 256 << 20
 
 
 def quoted(value):
@@ -560,6 +562,46 @@ def bears_long_searches(program):
     return True
 
 
+def overlapping(random, clients, calls):
+    """The lines of a legal history of one key with many calls at a time, in the order in which they ended: each call
+    takes effect at a moment between its begin and its end."""
+    now, held, lines, running, idle = 0, None, [], [], list(range(1, clients + 1))
+    while running or len(lines) < calls:
+        now += random.randint(1, 9)
+        begun = [call for call in running if call[3] is None]
+        done = [call for call in running if call[3] is not None]
+        kinds = [("begin", idle if len(lines) < calls else []), ("do", begun), ("end", done)]
+        turn = random.choice([kind for kind, some in kinds if some])
+        if turn == "begin":
+            name = random.choice([b"get", b"put", b"cas", b"get-and-set"])
+            count = {b"get": 0, b"cas": 2}.get(name, 1)
+            values = [b"v%d" % random.randrange(8) for _ in range(count)]
+            running.append([idle.pop(random.randrange(len(idle))), now, (name, values), None])
+        elif turn == "do":
+            call = random.choice(begun)
+            held, call[3] = step(held, *call[2])
+        else:
+            call = running.pop(running.index(random.choice(done)))
+            words = b" ".join([call[2][0], quoted(b"k"), *map(quoted, call[2][1])])
+            lines.append(b"%d %d %d %s -> %s" % (call[0], call[1], now, words, call[3]))
+            idle.append(call[0])
+    return lines
+
+
+def bears_overlaps(program):
+    """Whether histories of 16 clients that use one key at a time are decided, with a reply that no order gives too."""
+    for seed in range(4):
+        lines = overlapping(random.Random(seed), 16, 1000)
+        place = next(place for place in range(700, 1000) if b" get " in lines[place])
+        wrong = lines[place][:lines[place].index(b"->")] + b'-> "w"'
+        for want, text in ((b"legal", lines), (b"illegal part", [*lines[:place], wrong, *lines[place + 1:]])):
+            got, status, memory = told_of(program, b"\n".join(text) + b"\n")
+            if not got.startswith(want) or status != status_of(want) or memory > MOST_SEARCH:
+                print(f"store: calls that overlap, seed {seed}: expected {want}, got {got}, status {status}, {memory} bytes")
+                return False
+    return True
+
+
 def bears_classes(program):
     """Whether a store of many classes of keys is judged class by class, and a wrong one names its class."""
     lines, last = [], 2000
@@ -627,7 +669,7 @@ def main():
     if not (draws_are_right(program, False, both, True) and draws_are_right(program, True, begun, True)):
         return 1
     bears = (bears_cuts, bears_cut_starts, bears_usage, bears_size, bears_refusals, bears_streams, bears_long_searches,
-             bears_classes)
+             bears_overlaps, bears_classes)
     if not all(one(program) for one in bears):
         return 1
     print("store: verdicts on cut, long and many words are right, also with little memory and few steps; streams that "
