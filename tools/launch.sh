@@ -44,7 +44,7 @@ lanes() {
 
 # Proves and builds the program, names each library that is done with the time that is left, and runs
 # the program on no input. Where the toolchain's parts are not as the faster way knows them, one crate
-# after the other goes through rt alone; what it says then goes into the file.
+# after the other goes through rt alone; what it says then goes into the file. The second word is the command.
 build() {
     cd "$root/crates/$name"
     local processors status=0
@@ -54,7 +54,7 @@ build() {
     status=0
     rt all check --jobs "$processors" < /dev/null 2>&1 | tee "$1" |
         sed -un "/^== summary/d; s/^== /$name: checked /p" || status=$?
-    [ "$status" = 0 ] && rt run < /dev/null >> "$1" 2>&1
+    [ "$status" = 0 ] && rt run -- "$2" < /dev/null >> "$1" 2>&1
 }
 
 # The commit of the tree, and whether something in it is not committed; nothing where git cannot say.
@@ -66,10 +66,12 @@ commit() {
     echo "commit $commit$changes"
 }
 
-# Runs the program of this name, after a build if it is not current.
+# Runs the program of this name, after a build if it is not current. The second word is a command of the
+# program that succeeds on no input.
 launch() {
+    local first="$2"
     name="$1"
-    shift
+    shift 2
     program="$root/crates/$name/out/$name"
     if [ ! -f "$root/crates.txt" ]; then
         give_up "$root, where this script stands, is no clone: it has no crates.txt" 1
@@ -77,11 +79,11 @@ launch() {
     if ! is_current; then
         command -v rt > /dev/null 2>&1 ||
             give_up "the Rattle toolchain is missing: no command 'rt' on the PATH" 127
-        echo "$name: proving and building the program, as its text is new here" >&2
+        echo "$name: proving and building the program; the next lines say how long that takes" >&2
         echo "$name: (./dev try runs it within two minutes, with nothing proved)" >&2
         log="$(mktemp)"
         trap 'rm -f "$log"' EXIT
-        if ! (build "$log") >&2; then
+        if ! (build "$log" "$first") >&2; then
             cat "$log" >&2
             give_up "the program could not be built; the lines above say why" 1
         fi

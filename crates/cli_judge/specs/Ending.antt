@@ -15,8 +15,8 @@ unopened_line = as_line (codes "fault open")
 abbrev pub EndsWithStatus : ℕ → Type 0 → Type 0 → Type 0
 EndsWithStatus status done stopped = EndsBy FAULT status done stopped
 
--- the status is 0 and the answer is yes, or the status is 1 and the answer is no, or the status is 4
--- and a fault stopped the judge
+-- the status is 0 and the answer is yes, or the status is 1 and the answer is no, or the status is
+-- 4 and a fault stopped the judge
 -- Not said: that the line of a fault is written, or written completely; that the line names the
 -- fault that was met; that the output is flushed. Tests use streams that fail.
 abbrev pub EndsWithVerdict : ℕ → Type 0 → Type 0 → Type 0 → Type 0

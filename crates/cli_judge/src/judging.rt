@@ -99,8 +99,8 @@ fn open_tasks<F: Open, W: Write>(
     }
 }
 
-/// Judges a history in an order that is found or in that of its lines, against the tasks of a file if the
-/// settings name one, and returns the status.
+/// Judges a history in an order that is found or in that of its lines, against the tasks of a file
+/// if the settings name one, and returns the status.
 fn judge_as<T: Clock + AllocGlobal, F: Open, R: Read, W: Write, E: Write>(
     rt: &T,
     files: &F,

@@ -26,7 +26,7 @@ const UNKNOWN_LEVEL: &[u8] = b"error: --level is linearizable, sequential or ser
 ///
 /// | Status | Meaning |
 /// |---|---|
-/// | 0 | yes: the history is legal, there is an order of the level, the attempts are opaque, the part was written, or help or version were shown |
+/// | 0 | yes, the order or part was written, or help or version were shown |
 /// | 1 | no, or a line is no call or no attempt |
 /// | 2 | the command line was refused |
 /// | 3 | a search did not decide within its steps |

@@ -32,8 +32,8 @@ EndsDone (Ok t) status held holds = (status ≡ 0) × (holds ≡ held)
 EndsDone (Err fault) status held holds =
     (status ≡ 1) × AppendsPrefix held holds (fault_line fault)
 
--- the end of the program after an audit: the status is 0 if no flaw was found, and 1 otherwise; after a fault the status is 1, and a prefix of the line that names the fault was
--- written
+-- the end of the program after an audit: the status is 0 if no flaw was found, and 1 otherwise;
+-- after a fault the status is 1, and a prefix of the line that names the fault was written
 abbrev pub EndsChecked : Result Bool StreamFault → ℕ → Option (List ℕ) → Option (List ℕ) → Type 0
 EndsChecked (Ok true) status held holds = (status ≡ 0) × (holds ≡ held)
 EndsChecked (Ok false) status held holds = (status ≡ 1) × (holds ≡ held)

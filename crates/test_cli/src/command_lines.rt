@@ -3,7 +3,7 @@
 use crate::example::{ANSWERS, DUMP, SCRIPT};
 use crate::failing::{NEVER, Pieces, Sink, Stop};
 use crate::same::same;
-use cli_main::{Open, Watched, run_words};
+use cli_judge::{Open, Watched};
 use std::alloc::{AllocError, Global};
 use std::io::{ErrorKind, Read, Write};
 use std::process::Abort;
@@ -24,7 +24,7 @@ fn words_of(alloc: Global, words: &[&str]) -> Result<Vec<String>, AllocError> {
 /// a judge about its log is no error message.
 pub(crate) type Ended = (u8, bool);
 
-/// Runs a command line.
+/// Runs a command line, whose first word names the program.
 pub(crate) fn run_line<
     T: Threads + Wait + Clock + Sync + Abort + AllocGlobal,
     F: Open,
@@ -32,16 +32,22 @@ pub(crate) fn run_line<
     W: Write,
 >(rt: &T, files: &F, words: &[&str], input: &mut R, output: &mut W) -> Ended {
     let alloc = rt.alloc();
+    let judges = words.first().is_some_and(|program| *program == "judge");
     let words = words_of(alloc, words).expect(rt, "there is memory");
     let mut errors = Vec::new(alloc);
-    let status = run_words(
-        rt,
-        files,
-        words.as_slice(),
-        &mut Watched::new(alloc, input),
-        output,
-        &mut errors,
-    );
+    let status = if judges {
+        let mut watched = Watched::new(alloc, input);
+        cli_judge::run_words(
+            rt,
+            files,
+            words.as_slice(),
+            &mut watched,
+            output,
+            &mut errors,
+        )
+    } else {
+        cli_main::run_words(rt, words.as_slice(), input, output, &mut errors)
+    };
     let warns = errors.as_slice().starts_with(b"warning: ");
     (status, errors.is_empty() || warns)
 }
@@ -67,14 +73,22 @@ const ROWS: [(&[&str], u8, &[u8]); 24] = [
     (&["vacation", "-V", "run"], 0, VERSION),
     (&["vacation", "run", "--version"], 2, b""),
     (&["vacation", "--version=1"], 2, b""),
-    (&["vacation", "judge", "--steps", "9"], 2, b""),
-    (&["vacation", "judge", "--steps=10000000"], 2, b""),
-    (&["vacation", "judge", "--progress"], 2, b""),
+    (
+        &["judge", "history", "--given-order", "--steps", "9"],
+        2,
+        b"",
+    ),
+    (
+        &["judge", "history", "--steps=10000000", "--given-order"],
+        2,
+        b"",
+    ),
+    (&["judge", "history", "--given-order", "--progress"], 2, b""),
     (&["vacation", "tasks", "--history"], 2, b""),
     (&["vacation", "tasks", "--tries", "64"], 2, b""),
-    (&["vacation", "part"], 2, b""),
-    (&["vacation", "part", "--item", "car"], 2, b""),
-    (&["vacation", "part", "--customer", "0"], 2, b""),
+    (&["judge", "part"], 2, b""),
+    (&["judge", "part", "--item", "car"], 2, b""),
+    (&["judge", "part", "--customer", "0"], 2, b""),
 ];
 
 #[test]
@@ -100,7 +114,7 @@ const PART: &[u8] = b"1 0 5 newcust 3 -> true\n1 7 9 leave 3 -> 0\n";
 
 #[test]
 fn parts(rt: HostRuntime) {
-    let words = &["vacation", "part", "--customer", "3"];
+    let words = &["judge", "part", "--customer", "3"];
     let mut input = CALLS;
     let mut out = Vec::new(rt.alloc());
     let ended = run_line(&rt, &rt, words, &mut input, &mut out);
@@ -111,7 +125,7 @@ fn parts(rt: HostRuntime) {
     same(
         &rt,
         &(unwritten, sink.taken.as_slice()),
-        &((1, true), &PART[..7]),
+        &((4, true), &PART[..7]),
     );
 }
 

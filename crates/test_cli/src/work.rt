@@ -3,7 +3,7 @@
 use crate::command_lines::{Ended, run_line};
 use crate::failing::{NEVER, Pieces, Sink, Stop};
 use crate::same::same;
-use cli_main::Open;
+use cli_judge::Open;
 use std::io;
 use std::io::{ErrorKind, Read, Write};
 use std::process::Abort;
@@ -49,7 +49,7 @@ fn judge<T: Threads + Wait + Clock + Sync + Abort + AllocGlobal, R: Read, W: Wri
     input: &mut R,
     output: &mut W,
 ) -> Ended {
-    let words = &["vacation", "judge", "--tasks", name];
+    let words = &["judge", "history", "--given-order", "--tasks", name];
     run_line(rt, files, words, input, output)
 }
 
@@ -132,7 +132,7 @@ fn histories_in_any_order_against_work(rt: HostRuntime) {
         };
         let mut input = history;
         let mut out = Sink::new(rt.alloc(), NEVER, NEVER, Stop::Nothing);
-        let words = &["vacation", "judge", "--any-order", "--tasks", NAME];
+        let words = &["judge", "history", "--tasks", NAME];
         let ended = run_line(&rt, &files, words, &mut input, &mut out);
         let found = (ended, out.taken.as_slice(), out.is_flushed);
         same(&rt, &found, &((status, true), output, true));
@@ -167,7 +167,7 @@ fn files_that_fail(rt: HostRuntime) {
         let mut out = Vec::new(rt.alloc());
         let ended = judge(&rt, &files, name, &mut input, &mut out);
         let found = (ended, out.as_slice(), input.calls);
-        same(&rt, &found, &((1, true), output, reads));
+        same(&rt, &found, &((4, true), output, reads));
     }
 }
 
@@ -187,7 +187,7 @@ fn a_verdict_that_is_cut(rt: HostRuntime) {
     same(
         &rt,
         &(ended.0, out.taken.as_slice()),
-        &(1, b"legal c".as_slice()),
+        &(4, b"legal c".as_slice()),
     );
 }
 
@@ -200,6 +200,6 @@ fn a_history_that_fails(rt: HostRuntime) {
     same(
         &rt,
         &(ended.0, out.as_slice()),
-        &(1, b"fault read\n".as_slice()),
+        &(4, b"fault read\n".as_slice()),
     );
 }
