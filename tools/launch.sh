@@ -1,6 +1,7 @@
 # shellcheck shell=bash
 # Builds a proved program of this repository where that is needed, and runs it with the arguments and
 # streams given. The scripts vacation and judge set `root`, read this file and call `launch`.
+# shellcheck disable=SC2154  # root is set there
 
 # Says why the program cannot run, and ends with that status.
 give_up() {
@@ -46,7 +47,7 @@ lanes() {
 # the program on no input. Where the toolchain's parts are not as the faster way knows them, one crate
 # after the other goes through rt alone; what it says then goes into the file. The second word is the command.
 build() {
-    cd "$root/crates/$name"
+    cd "$root/crates/$name" || return
     local processors status=0
     processors="$(lanes)"
     python3 "$root/tools/build_program.py" "$processors" < /dev/null || status=$?
