@@ -1,10 +1,17 @@
 -- The last lines of the program.
-use Rattle.std.proofs.Common.{ℕ, Bool, true, false, List, sym, subst, ◌⊎◌, inl, inr, Option}
+use Rattle.std.proofs.Common.{ℕ, Bool, true, false, List, [], sym, subst, ◌⊎◌, inl, inr, Option}
 use Rattle.std.specs.Prelude.{Result, Ok, Err, OnOk, OnErr, IfOk, IfErr}
+use Rattle.std.specs.Io.KnownBytes.{Appends}
 use Rattle.vac_lines.specs.Writing.{AppendsPrefix}
 use Rattle.vac_lines.specs.declared.stream_fault.StreamFault.{StreamFault}
 use Rattle.cli_common.specs.Ending.{fault_line}
+use Rattle.cli_common.proofs.LastLines as last
 use Rattle.cli_main.specs.Ending.{EndsWithStatus, EndsDone, EndsChecked, NamedAfter}
+
+-- where nothing was written first
+pub nothing_then : (held middle holds : Option (List ℕ)) (text : List ℕ) → Appends held middle [] →
+    AppendsPrefix middle holds text → AppendsPrefix held holds text
+nothing_then held middle holds text none more = last.nothing_then held middle holds text none more
 
 -- work was done, or stopped by a fault, and then the program ended
 pub done : {T : Type 0} (Done Stopped : Option (List ℕ) → Type 0) (r : Result T StreamFault) (status : ℕ)

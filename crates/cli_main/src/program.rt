@@ -95,7 +95,7 @@ fn check<R: Read, W: Write>(alloc: Global, input: &mut R, output: &mut W) -> u8
 }
 
 /// Writes the tasks of a load, and returns the status.
-#[tactic(auto, using(cli_common::proofs::LastLines::nothing_then))]
+#[tactic(auto, using(crate::proofs::Ending::nothing_then))]
 fn list_tasks<W: Write, E: Write>(
     alloc: Global,
     settings: &Settings,
