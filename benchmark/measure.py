@@ -19,7 +19,7 @@ import estimates
 import pages
 from picture import picture
 from programs import (IS_CLONE, OURS, PARTS, PROGRAM, ROOT, TRIED, Judge, Ours, Peer, Pinner, give_up, has_option,
-                      lines_of, options_of)
+                      judge_beside, lines_of, options_of)
 
 # Names and options of a load. In each the bookings come to a steady number, for which there are more than
 # enough blocks: leaves give back as much as trips take, and no call is ever answered `full`.
@@ -489,15 +489,18 @@ def write_all(folder, plan, found, times, load):
 def program_to_measure(given):
     program = Path(given).resolve() if given else PROGRAM
     if IS_CLONE and not given:
-        say("the program (./vacation builds it where that is needed)")
+        say("the programs (./vacation and ./judge build them where that is needed)")
         with open(os.devnull, "rb") as nothing:
-            if subprocess.run([ROOT / "vacation", "run"], stdin=nothing).returncode != 0:
-                give_up("the program could not be built")
+            for words in (["vacation", "run"], ["judge", "history"]):
+                if subprocess.run([ROOT / words[0], words[1]], stdin=nothing).returncode != 0:
+                    give_up(f"the program {words[0]} could not be built")
     if not os.access(program, os.X_OK):
         give_up(f"there is no program at {program}")
-    for subcommand, option in (("tasks", "--clients"), ("judge", "--blocks"), ("load", "--stats")):
+    for subcommand, option in (("tasks", "--clients"), ("load", "--stats")):
         if not has_option(program, subcommand, option):
             give_up(f"this program has no '{subcommand}' with '{option}'")
+    if not os.access(judge_beside(program), os.X_OK):
+        give_up(f"there is no program at {judge_beside(program)}")
     return program
 
 

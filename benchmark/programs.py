@@ -211,16 +211,21 @@ class Peer:
         return output, next(line for line in errors.splitlines() if line.startswith("cars="))
 
 
+def judge_beside(program):
+    """The program `judge` that stands beside the program, or that the last build of its tree left."""
+    folder = Path(program).resolve().parent
+    beside = folder / "judge"
+    return beside if os.access(beside, os.X_OK) else folder.parent.parent / "judge/out/judge"
+
+
 class Judge:
-    """The program as the judge of histories, held against the work where it can do that."""
+    """The judge of histories, held against the work."""
 
     def __init__(self, program):
-        self.program = program
-        self.knows_work = has_option(program, "judge", "--tasks")
+        self.program = judge_beside(program)
 
     def want_legal(self, name, history, report, settings, tasks):
-        more = ["--tasks", tasks] if self.knows_work else []
-        words = [self.program, "judge", "--blocks", str(settings["blocks"]), *more]
+        words = [self.program, "history", "--given-order", "--blocks", str(settings["blocks"]), "--tasks", tasks]
         done = subprocess.run(words, input=history, capture_output=True, text=True, timeout=PATIENCE)
         with open(tasks, "rb") as lines:
             calls = sum(1 for _ in lines)

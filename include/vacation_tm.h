@@ -5,8 +5,8 @@
  *     benchmark/build built --interface
  *     cc -O2 -fPIC -shared -I include mine.c -o mine.so
  *     ./vacation tasks --tasks 1000 --items 8 > work
- *     built/peer ./mine.so --attempts --jitter 1 < work > attempts && ./vacation opaque < attempts
- *     built/peer ./mine.so --history --jitter 1 < work > log && ./vacation judge --tasks work < log
+ *     built/peer ./mine.so --attempts --jitter 1 < work > attempts && ./judge attempts < attempts
+ *     built/peer ./mine.so --history --jitter 1 < work > log && ./judge history --given-order --tasks work < log
  *
  * `&&` is needed: a run that hung or crashed can end as `legal`, since tasks behind a client's pending
  * call do not count as missing. What to do if a verdict is not `legal` or `opaque`: docs/JUDGE.md, "The
@@ -54,9 +54,9 @@ int tm_commit(void *client);
  * - Any other attempt: 2 * v + 1, if version v has all that it read. After an extension v is the
  *   version to which it extended. If it read nothing, v is the version at its begin.
  * - A memory without versions returns 0. Its calls then stand by their begin: judge its histories by
- *   `vacation judge --any-order`, and no attempts.
+ *   `judge history`, and no attempts.
  * - A memory that numbers its writers alone returns 2 * v for them, and 0 for other attempts. Judge
- *   its attempts by `vacation opaque --place`, and its histories by `vacation judge --any-order` behind
+ *   its attempts by `judge attempts --place`, and its histories by `judge history` behind
  *   `sort -n -k 2,2`, which puts the lines of each client into its order. */
 uint64_t tm_place(void *client);
 

@@ -1,5 +1,5 @@
 #!/usr/bin/env python3
-"""Runs loads of the program that write their attempts ('--attempts'), and lets the program judge
+"""Runs loads of the program that write their attempts ('--attempts'), and lets the judge judge
 them: they are opaque, as many committed as calls of the opening and tasks were answered, and each
 client's stand in their place. Of loads whose clients meet, some attempts were given up after they
 had read, and some calls stayed busy. Its times are those of a clock that runs while the load does.
@@ -7,13 +7,13 @@ A load reports the same with them as without. A text with one value changed, tha
 given-up attempt read, is not opaque. Its argument is the program; with none it is the one that the
 last build left."""
 
-import os
 import re
 import subprocess
 import sys
 import time
 
-HERE = os.path.dirname(os.path.realpath(__file__))
+import built
+
 LINE = re.compile(r"[0-9]+ [0-9]+ [0-9]+ (commit|abort)( [rw] [0-9]+ [0-9]+)*")
 READ = re.compile(r"(.* r [0-9]+ )([0-9]+)((?: w [0-9]+ [0-9]+)*)")
 TOLD = re.compile(r"answered ([0-9]+) busy ([0-9]+) memory 0 spent 0\n[^\n]*\n")
@@ -66,7 +66,7 @@ def run(program, settings, *more):
 
 def judge(program, settings, text):
     words = str(8 * settings.get("blocks", 1024) + 16)
-    return subprocess.run([program, "opaque", "--words", words], input=text,
+    return subprocess.run([built.judge(program), "attempts", "--words", words], input=text,
                           capture_output=True, text=True, timeout=300)
 
 
@@ -161,8 +161,7 @@ def look_at_long_lines(program):
 
 
 def main():
-    program = sys.argv[1] if len(sys.argv) > 1 else os.path.join(
-        HERE, "../crates/vacation/out/vacation")
+    program = built.vacation()
     given_up = 0
     for options in LOADS:
         for clients in (1, 4, 64):

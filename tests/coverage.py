@@ -1,5 +1,5 @@
 #!/usr/bin/env python3
-"""Checks what `vacation judge`, `order` and `opaque` report of a log on standard error: the figures of `--stats`, and
+"""Checks what `judge history`, `order` and `attempts` report of a log on standard error: the figures of `--stats`, and
 the warning about a log that shows little, which nobody has to ask for. The figures are counted anew here, each call
 against each other. The logs are random, legal or with a damaged line, with and without overlaps and calls without an
 end, and empty. Standard output and the status must be the same with `--stats` and without. Its argument is the program;
@@ -9,14 +9,16 @@ import random
 import subprocess
 import sys
 import tempfile
-from pathlib import Path
+
+import built
 
 LOGS, NEVER, MOST_UNASKED, TURNS = 60, 1 << 64, 1 << 14, 200
 NONE = "warning: there is no {}: {} says nothing\n"
 FEW = "warning: fewer than one {} in ten began beside another: {} says little\n"
 BEHIND = "warning: tasks behind a call without END are not missing; such calls: {}\n"
-CALLS = [["judge"], ["judge", "--any-order"], ["order"]]
-ATTEMPTS = [["opaque"], ["opaque", "--place"]]
+GIVEN = ["history", "--given-order"]
+CALLS = [GIVEN, ["history"], ["order"]]
+ATTEMPTS = [["attempts"], ["attempts", "--place"]]
 
 
 def want(holds, what):
@@ -111,11 +113,11 @@ def check_tasks(program):
     with tempfile.NamedTemporaryFile("w") as file:
         file.write("1 newcust 1\n2 newcust 2\n")
         file.flush()
-        for words in (["judge"], ["judge", "--any-order"]):
+        for words in (GIVEN, ["history"]):
             want(check_log(program, words + ["--tasks", file.name], lines, "call") == 0, f"{words} --tasks is illegal")
-    for words in (["judge", "--tasks", "/no/such/file"], ["judge", "--any-order", "--tasks", "/no/such/file"]):
+    for words in ([*GIVEN, "--tasks", "/no/such/file"], ["history", "--tasks", "/no/such/file"]):
         ended = run(program, words, lines)
-        want(ended == ("fault open\n", 1, ""), f"{words}: {ended}")
+        want(ended == ("fault open\n", 4, ""), f"{words}: {ended}")
 
 
 def check_pending(program):
@@ -125,9 +127,9 @@ def check_pending(program):
         file.write("1 newcust 1\n2 newcust 2\n3 newcust 3\n3 newcust 4\n4 newcust 5\n4 newcust 6\n")
         file.flush()
         for more in (["3 3 - newcust 3 -> ?"], ["3 3 - newcust 3 -> true", "4 4 - newcust 5 -> ?"]):
-            for words in (["judge"], ["judge", "--any-order"]):
+            for words in (GIVEN, ["history"]):
                 status = check_log(program, words + ["--tasks", file.name], whole + more, "call")
-                want(words != ["judge"] or status == (0 if len(more) == 2 else 1), f"{words} --tasks: status {status} with {more}")
+                want(words != GIVEN or status == (0 if len(more) == 2 else 1), f"{words} --tasks: status {status} with {more}")
                 want(check_log(program, words, whole + more, "call") == 0, f"{words}: pending calls are illegal")
 
 
@@ -136,14 +138,13 @@ def check_long(program):
     for calls in (MOST_UNASKED, MOST_UNASKED + 1):
         lines = [f"1 {2 * place} {2 * place + 1} bill 1 -> -1" for place in range(calls)]
         few = FEW.format("call", "legal")
-        want(run(program, ["judge"], lines)[1:] == (0, few if calls == MOST_UNASKED else ""), f"{calls} calls")
-        want(run(program, ["judge", "--stats"], lines)[2].endswith("most calls at one moment: 1\n" + few),
+        want(run(program, GIVEN, lines)[1:] == (0, few if calls == MOST_UNASKED else ""), f"{calls} calls")
+        want(run(program, [*GIVEN, "--stats"], lines)[2].endswith("most calls at one moment: 1\n" + few),
              f"{calls} calls with --stats")
 
 
 def main():
-    built = Path(__file__).resolve().parent.parent / "crates" / "vacation" / "out" / "vacation"
-    program, draw, warned = sys.argv[1] if len(sys.argv) > 1 else str(built), random.Random(7), 0
+    program, draw, warned = built.judge(), random.Random(7), 0
     for what, commands in (("call", CALLS), ("attempt", ATTEMPTS)):
         for words in commands:
             want(check_log(program, words, [], what) == 0, f"{words}: the empty log is refused")
@@ -164,8 +165,9 @@ def main():
     check_tasks(program)
     check_pending(program)
     check_long(program)
-    for words in (["run"], ["dump"], ["check"], ["part", "--customer", "1"], ["tasks"]):
-        want(run(program, words + ["--stats"], [])[1] == 2, f"{words} takes --stats")
+    want(run(program, ["part", "--customer", "1", "--stats"], [])[1] == 2, "part takes --stats")
+    for words in (["run"], ["dump"], ["check"], ["tasks"]):
+        want(run(built.vacation(), words + ["--stats"], [])[1] == 2, f"{words} takes --stats")
     print(f"coverage: {2 * LOGS} logs, {warned} of them warned of")
 
 

@@ -26,6 +26,7 @@ from pathlib import Path
 ROOT = Path(__file__).resolve().parent.parent
 sys.dont_write_bytecode = True
 sys.path.insert(0, str(ROOT / "tests"))
+import built
 import scripted
 from scripted import Memory, Tables, want
 from harness import runs
@@ -260,7 +261,7 @@ def run_here(program, folder, **plan):
     (folder / "templates").mkdir(exist_ok=True)
     place = Path(tempfile.mkdtemp(dir=folder)) / "run"
     (place.parent / "templates").mkdir()
-    return runs.run(one, Programs(str(program), ""), place, Quiet())
+    return runs.run(one, Programs(str(program), built.judge(program), ""), place, Quiet())
 
 
 @contextmanager
@@ -303,12 +304,12 @@ def holds_errors(program, folder):
 
 def judge_of_keys(program):
     """Returns the program kv_judge, whose crate stands beside that of the program."""
-    return program.parent.parent.parent / "kv_judge/out/kv_judge"
+    return Path(built.other("kv_judge", program))
 
 
 def harness(program, folder, *options, wanted=(0,)):
     """Runs the harness and returns its lines."""
-    words = [RUN, "--program", program, "--kv-judge", judge_of_keys(program), *options]
+    words = [RUN, "--program", program, "--judge", built.judge(program), "--kv-judge", judge_of_keys(program), *options]
     done = subprocess.run(words, text=True, capture_output=True, check=False,
                           env=os.environ | {"TMPDIR": str(folder)}, timeout=PATIENCE)
     want(done.returncode in wanted, f"{options}: status {done.returncode}:\n{done.stdout}{done.stderr[-2000:]}")

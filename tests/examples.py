@@ -3,13 +3,16 @@
 write with what the pages say. An example is a block of a page of which the first line begins with
 '$ ': each such line is a command for bash, and the lines behind it are what it writes. In a
 command './vacation' is the program, a file that is built already: the argument, or with none the
-one that the repository's last build left; './explain', './convert' and the files of docs are there, too. So is
-'kv_judge', if it is built in its crate beside that of the program; otherwise its examples are skipped."""
+one that the repository's last build left; './judge' is that beside it, and './explain', './convert' and the files of
+docs are there, too. So is 'kv_judge', if it is built in its crate beside that of the program; otherwise its examples
+are skipped."""
 
 import os
 import subprocess
 import sys
 import tempfile
+
+import built
 
 ROOT = os.path.join(os.path.dirname(os.path.realpath(__file__)), "..")
 PAGES = ["README.md", "docs/USING.md", "docs/RULES.md", "docs/JUDGE.md"]
@@ -56,22 +59,21 @@ def run(command, folder):
     ended = subprocess.run(
         ["bash", "-c", command], cwd=folder, stdin=subprocess.DEVNULL,
         stdout=subprocess.PIPE, timeout=60, check=False,
-        env=os.environ | {"VACATION": os.path.join(folder, "vacation"), "PATH": f"{folder}:{os.environ['PATH']}"},
+        env=os.environ | {"JUDGE": os.path.join(folder, "judge"), "PATH": f"{folder}:{os.environ['PATH']}"},
     )
     return ended.stdout.decode("latin-1")
 
 
 def main():
-    program = os.path.join(ROOT, "crates/vacation/out/vacation")
-    if len(sys.argv) > 1:
-        program = sys.argv[1]
-    if not os.access(program, os.X_OK):
-        sys.exit(f"examples: there is no program at {program}: './vacation' builds it")
-    keys = os.path.join(os.path.dirname(os.path.realpath(program)), f"../../{KEYS}/out/{KEYS}")
+    program, judge, keys = built.vacation(), built.judge(), built.other(KEYS)
+    for name, path in (("vacation", program), ("judge", judge)):
+        if not os.access(path, os.X_OK):
+            sys.exit(f"examples: there is no program at {path}: './{name}' builds it")
     has_keys = os.access(keys, os.X_OK)
     played = failed = skipped = 0
     with tempfile.TemporaryDirectory() as folder:
         os.symlink(os.path.realpath(program), os.path.join(folder, "vacation"))
+        os.symlink(os.path.realpath(judge), os.path.join(folder, "judge"))
         for name in ("explain", "convert", "docs"):
             os.symlink(os.path.realpath(os.path.join(ROOT, name)), os.path.join(folder, name))
         if has_keys:

@@ -24,6 +24,7 @@ from xml.etree import ElementTree
 ROOT = Path(__file__).resolve().parent.parent
 sys.dont_write_bytecode = True
 sys.path.insert(0, str(ROOT / "tools"))
+import built
 from histories import unconfirmed
 from parts import part_of, part_until
 from explaining import history
@@ -467,8 +468,8 @@ def holds_other_logs(program, folder):
     tasks = subprocess.run([program.path, "tasks", "--tasks", "30"], capture_output=True, text=True, check=True,
                            timeout=PATIENCE).stdout
     keys = '0 10 20 put "a" "1" -> ok\n0 21 30 txn if "a" "1" if "b" - then "b" "1" -> true\n1 25 - get "a" -> ?\n'
-    for text, command in ((attempts, "'vacation opaque < LOG'"), (keys, "'kv_judge < LOG'"),
-                          (tasks, "'vacation judge --tasks LOG < HISTORY'")):
+    for text, command in ((attempts, "'judge attempts < LOG'"), (keys, "'kv_judge < LOG'"),
+                          (tasks, "'judge history --tasks LOG < HISTORY'")):
         log.write_text(text, encoding="ascii")
         lines = explain(program, log)
         want(len(lines) == 2 and lines[0].startswith("fault ") and command in lines[1], f"{command}: {lines}")
@@ -523,9 +524,9 @@ def holds_pages(program, folder):
 
 
 def main():
-    named = sys.argv[1] if len(sys.argv) > 1 else ROOT / "crates/vacation/out/vacation"
+    named = built.judge()
     if not os.access(named, os.X_OK):
-        sys.exit(f"explain: there is no program at {named}: './vacation' builds it")
+        sys.exit(f"explain: there is no program at {named}: './judge' builds it")
     program = Program(Path(named))
     with tempfile.TemporaryDirectory(prefix="explain-test-") as folder:
         try:

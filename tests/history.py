@@ -5,13 +5,13 @@ answered, and leaves the state that the load reports. Its times are those of a c
 the load does. A history with one answer changed is not legal. Its argument is the program; with
 none it is the one that the last build left."""
 
-import os
 import re
 import subprocess
 import sys
 import time
 
-HERE = os.path.dirname(os.path.realpath(__file__))
+import built
+
 LINE = re.compile(r"[0-9]+ [0-9]+ [0-9]+ .+ -> .+")
 TOLD = re.compile(r"answered ([0-9]+) busy [0-9]+ memory 0 spent 0\n([^\n]*)\n")
 STATS = re.compile(r"seconds [^\n]*\n")
@@ -39,7 +39,7 @@ def run(program, settings, *more):
 
 def judge(program, settings, history):
     blocks = str(settings.get("blocks", 1024))
-    return subprocess.run([program, "judge", "--blocks", blocks], input=history,
+    return subprocess.run([built.judge(program), "history", "--given-order", "--blocks", blocks], input=history,
                           capture_output=True, text=True, timeout=300)
 
 
@@ -89,8 +89,7 @@ def damaged(program, settings, history):
 
 
 def main():
-    program = sys.argv[1] if len(sys.argv) > 1 else os.path.join(
-        HERE, "../crates/vacation/out/vacation")
+    program = built.vacation()
     for options in LOADS:
         for clients in (1, 2, 8, 64):
             settings = options | {"clients": clients}

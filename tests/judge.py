@@ -5,7 +5,6 @@ few clients, legal and damaged in one line, with pending and undetermined calls.
 (`--tasks`), the same or changed in one task. The naive judge looks through all earlier lines for each line, and keeps
 nothing. Its argument is the program; with none it is the one that the last build left."""
 
-import os
 import random
 import subprocess
 import sys
@@ -13,6 +12,7 @@ import tempfile
 from pathlib import Path
 
 sys.path.insert(0, str(Path(__file__).resolve().parent.parent / "tools"))
+import built
 from explaining.model import run
 from explaining.tasks import read_task
 from histories import REPLIES
@@ -218,16 +218,14 @@ def held(lines, work):
 def asked(program, text, *words):
     """What the program writes of a history, and its status."""
     ended = subprocess.run(
-        [program, "judge", "--blocks", str(BLOCKS), *words], input=text.encode("latin-1"),
+        [program, "history", "--given-order", "--blocks", str(BLOCKS), *words], input=text.encode("latin-1"),
         capture_output=True, timeout=20, check=False,
     )
     return ended.stdout.decode("latin-1"), ended.returncode
 
 
 def main():
-    here = os.path.dirname(os.path.realpath(__file__))
-    built = os.path.join(here, "..", "crates", "vacation", "out", "vacation")
-    program = sys.argv[1] if len(sys.argv) > 1 else built
+    program = built.judge()
     draw, verdicts = random.Random(33), {}
     for _ in range(HISTORIES):
         lines = drawn_history(draw)

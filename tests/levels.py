@@ -1,11 +1,10 @@
 #!/usr/bin/env python3
-"""Compares `vacation order --level` and `vacation judge --any-order --level` with a search that stands here, written
+"""Compares `judge order --level` and `judge history --level` with a search that stands here, written
 from docs/RULES.md and docs/JUDGE.md and apart from the program, over the model of the manager that all scripts share.
 The histories are small random ones, with pending and undetermined calls, and each is searched at each level of
 consistency. An order that the program writes is checked by the rules of its level. Then come the command lines that are
 refused. Its argument is the program; with none it is the one that the last build left."""
 
-import os
 import random
 import re
 import subprocess
@@ -14,6 +13,7 @@ from collections import Counter
 from pathlib import Path
 
 sys.path.insert(0, str(Path(__file__).resolve().parent.parent / "tools"))
+import built
 from explaining import model
 from explaining.tasks import read_task
 from histories import REPLIES, interleaved, unconfirmed
@@ -22,7 +22,7 @@ BLOCKS, HISTORIES, STEPS, NEVER = 5, 2_000, 100_000, 1 << 64
 LEVELS = ("linearizable", "sequential", "serializable")
 FAULTS = {"": "bad-call", "1 2 3 audit": "bad-call", "1 2 3 fly -> true": "bad-command"}
 NO_LEVEL = "error: --level is linearizable, sequential or serializable\n"
-STRAY = "error: --level, --steps and --progress need --any-order\n"
+STRAY = "error: --level, --steps and --progress do not go with --given-order\n"
 TASKS_BELOW = "error: --tasks needs the level linearizable\n"
 
 
@@ -168,8 +168,8 @@ def searched(program, words, level, text):
 
 
 def check_judge(program, level, text, ordered):
-    """`judge --any-order` says that an order was found, or what `order` says."""
-    judged, line = searched(program, ["judge", "--any-order"], level, text), f"legal {level}\n"
+    """`history` says that an order was found, or what `order` says."""
+    judged, line = searched(program, ["history"], level, text), f"legal {level}\n"
     if ordered[0] != 0:
         fits = judged == ordered
     elif level == "linearizable":
@@ -214,22 +214,24 @@ def refusals(program):
     call = "1 0 5 newcust 1 -> true\n"
     for words, wanted in [(["order", "--level", "strict"], NO_LEVEL), (["order", "--level", ""], NO_LEVEL),
                           (["order", "--level", "Sequential"], NO_LEVEL),
-                          (["judge", "--level", "snapshot"], NO_LEVEL),
-                          (["judge", "--any-order", "--level", "sequential "], NO_LEVEL),
-                          (["judge", "--level", "linearizable"], STRAY), (["judge", "--level", "sequential"], STRAY),
-                          (["judge", "--steps", "5"], STRAY), (["judge", "--progress"], STRAY),
-                          (["judge", "--level", "sequential", "--tasks", "/none"], STRAY),
-                          (["judge", "--any-order", "--level", "sequential", "--tasks", "/none"], TASKS_BELOW),
-                          (["judge", "--any-order", "--level", "serializable", "--tasks", "/none"], TASKS_BELOW)]:
+                          (["history", "--given-order", "--level", "snapshot"], NO_LEVEL),
+                          (["history", "--level", "sequential "], NO_LEVEL),
+                          (["history", "--given-order", "--level", "linearizable"], STRAY),
+                          (["history", "--level", "sequential", "--given-order"], STRAY),
+                          (["history", "--given-order", "--steps", "5"], STRAY),
+                          (["history", "--given-order", "--progress"], STRAY),
+                          (["history", "--given-order", "--level", "sequential", "--tasks", "/none"], STRAY),
+                          (["history", "--level", "sequential", "--tasks", "/none"], TASKS_BELOW),
+                          (["history", "--level", "serializable", "--tasks", "/none"], TASKS_BELOW)]:
         with open("/dev/null", "rb") as nothing:
             ended = subprocess.run([program, *words], stdin=nothing, capture_output=True, text=True, timeout=60,
                                    check=False)
         if (ended.returncode, ended.stdout, ended.stderr) != (2, "", wanted):
             sys.exit(f"levels: {words}: {ended}")
-    status, out, _ = run(program, ["judge", "--any-order", "--level", "linearizable", "--tasks", "/none"], call)
-    if (status, out) != (1, "fault open\n"):
+    status, out, _ = run(program, ["history", "--level", "linearizable", "--tasks", "/none"], call)
+    if (status, out) != (4, "fault open\n"):
         sys.exit(f"levels: --tasks at the level linearizable: status {status}, {out!r}")
-    for words in [["run", "--level", "sequential"], ["order", "--level"], ["opaque", "--level", "sequential"]]:
+    for words in [["part", "--level", "sequential"], ["order", "--level"], ["attempts", "--level", "sequential"]]:
         status, out, error = run(program, words, call)
         if (status, out) != (2, "") or not error.startswith("error: "):
             sys.exit(f"levels: {words}: status {status}, {out!r}, {error!r}")
@@ -239,16 +241,14 @@ def undecided(program):
     """Without steps nothing is decided, by either subcommand at each level."""
     text = "1 2 3 newcust 3 -> true\n2 4 5 bill 3 -> -1\n"
     for level in LEVELS:
-        for words in (["order"], ["judge", "--any-order"]):
+        for words in (["order"], ["history"]):
             status, out, _ = run(program, [*words, "--level", level, "--steps", "0"], text)
             if (status, out) != (3, "undecided 0\n"):
                 sys.exit(f"levels: {words} at the level {level} without steps: status {status}, {out!r}")
 
 
 def main():
-    here = os.path.dirname(os.path.realpath(__file__))
-    built = os.path.join(here, "..", "crates", "vacation", "out", "vacation")
-    program = sys.argv[1] if len(sys.argv) > 1 else built
+    program = built.judge()
     draw, told = random.Random(83), Counter()
     for _ in range(HISTORIES):
         lines = interleaved(draw, drawn_history(draw))

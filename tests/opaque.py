@@ -6,10 +6,11 @@ looks through all lines before it, and keeps no words. With --place, if the prog
 it compares drawn logs of up to six attempts with a search through all orders. Its argument is the
 program; with none it is the one that the last build left."""
 
-import os
 import random
 import subprocess
 import sys
+
+import built
 
 TEXTS, MOST, MOST_CLIENT = 400, (1 << 64) - 1, (1 << 32) - 1
 # Lines that are no attempt, with their fault, at 5 words.
@@ -138,7 +139,7 @@ def as_text(attempts, chance):
 
 def run(program, text, options=()):
     """Returns what the program writes, its status, and its errors, without the warning about texts that show little."""
-    command = [program, "opaque", "--words", str(WORDS), *options]
+    command = [program, "attempts", "--words", str(WORDS), *options]
     ran = subprocess.run(command, input=text.encode(), capture_output=True, timeout=60, check=False)
     errors = ran.stderr.decode().splitlines(keepends=True)
     return ran.stdout.decode(), ran.returncode, "".join(line for line in errors if not line.startswith("warning: "))
@@ -221,12 +222,6 @@ def compare(program, text, wanted, options=()):
     return 1
 
 
-def takes_places(program):
-    """True if the program searches for places."""
-    ran = subprocess.run([program, "opaque", "--help"], capture_output=True, timeout=60, check=False)
-    return b"--place" in ran.stdout + ran.stderr
-
-
 def drawn_texts():
     """Texts to be judged in their order: lines that are no attempt, and drawn ones, some of them damaged."""
     texts = [line + "\n" for line in BAD]
@@ -261,9 +256,7 @@ def name_of(verdict):
 
 
 def main():
-    here = os.path.dirname(os.path.realpath(__file__))
-    built = os.path.join(here, "..", "crates", "vacation", "out", "vacation")
-    program = sys.argv[1] if len(sys.argv) > 1 else built
+    program = built.judge()
     wrong, found, texts = 0, {}, drawn_texts()
     for text in texts:
         wanted = judge(text)
@@ -271,7 +264,7 @@ def main():
         wrong += compare(program, text, wanted)
     for text, wanted in longest_texts():
         wrong += compare(program, text, wanted)
-    places = place_texts() if takes_places(program) else []
+    places = place_texts()
     for text in places:
         wanted = place(text)
         found[name_of(wanted)] = found.get(name_of(wanted), 0) + 1
@@ -280,7 +273,7 @@ def main():
         if parse(line) != fault:
             wrong += 1
             print(f"opaque: the judge here says {parse(line)} of {line[:60]!r}, and not {fault}")
-    seen = {"opaque", "illegal client", "illegal time", "illegal read"} | ({"illegal places"} if places else set())
+    seen = {"opaque", "illegal client", "illegal time", "illegal read"} | {"illegal places"}
     if not seen <= set(found):
         wrong += 1
         print(f"opaque: no text has the verdicts {sorted(seen - set(found))}")

@@ -6,7 +6,6 @@ calls all orders are tried; above that a search that remembers where it was. The
 checked against the rules of a linearization. Then come inputs that are large or hostile. Its argument is the program;
 with none it is the one that the last build left."""
 
-import os
 import random
 import subprocess
 import sys
@@ -15,6 +14,7 @@ from collections import Counter
 from pathlib import Path
 
 sys.path.insert(0, str(Path(__file__).resolve().parent.parent / "tools"))
+import built
 from explaining import model
 from explaining.tasks import read_task
 from histories import REPLIES, interleaved, unconfirmed
@@ -299,12 +299,12 @@ def run(program, text, steps=1_000_000, blocks=BLOCKS, seconds=60, command=("ord
 
 
 def check_judge(program, lines, text, ordered):
-    """`judge --any-order` judges the calls in the order that `order` finds, or says what `order` says."""
+    """`history` judges the calls in the order that `order` finds, or says what `order` says."""
     status, out = ordered
     wanted = (0, verdict_on_order(lines, out.splitlines())) if status == 0 else ordered
-    judged = run(program, text, command=("judge", "--any-order"))
+    judged = run(program, text, command=("history",))
     if judged != wanted:
-        sys.exit(f"order: of\n{text}\njudge --any-order says {judged}, and {wanted} is right")
+        sys.exit(f"order: of\n{text}\nhistory says {judged}, and {wanted} is right")
 
 
 def compare(program, lines, ending):
@@ -378,16 +378,14 @@ def held(program):
         with tempfile.NamedTemporaryFile("w") as file:
             file.write(tasks)
             file.flush()
-            ended = subprocess.run([program, "judge", "--any-order", "--tasks", file.name], input=history,
+            ended = subprocess.run([program, "history", "--tasks", file.name], input=history,
                                    capture_output=True, text=True, timeout=60, check=False)
         if ended.returncode != status or not ended.stdout.startswith(begins):
             sys.exit(f"order: {history!r} held against {tasks!r}: status {ended.returncode}, {ended.stdout!r}")
 
 
 def main():
-    here = os.path.dirname(os.path.realpath(__file__))
-    built = os.path.join(here, "..", "crates", "vacation", "out", "vacation")
-    program = sys.argv[1] if len(sys.argv) > 1 else built
+    program = built.judge()
     draw, told = random.Random(56), {}
     for number in range(HISTORIES):
         lines = mixed(draw, drawn_history(draw, 14 if number % 8 == 0 else 8))

@@ -17,6 +17,8 @@ import tarfile
 import tempfile
 from pathlib import Path
 
+import built
+
 ROOT = Path(__file__).resolve().parent.parent
 PATIENCE = 400
 # The first words of lines, and the verdicts, that the page on histories must tell.
@@ -48,15 +50,15 @@ def contents(folder):
 
 def judge_of_keys(program):
     """The judge of keys and values, whose crate stands beside that of the program, if it is built."""
-    found = program.parent.parent.parent / "kv_judge/out/kv_judge"
+    found = built.other("kv_judge", program)
     return [found] if os.access(found, os.X_OK) else []
 
 
 def pack(program, folder):
     """Packs twice, with other umasks, zones and folders. Returns the folder of the first."""
     first, second, keys = folder / "first", folder / "a second one", judge_of_keys(program)
-    run("bash", "-c", 'umask 022; exec "$0" "$@"', ROOT / "dev", "package", program, first, *keys)
-    run("bash", "-c", 'umask 077; exec "$0" "$@"', ROOT / "dev", "package", program, second, *keys, cwd="/",
+    run("bash", "-c", 'umask 022; exec "$0" "$@"', ROOT / "dev", "package", program, built.judge(program), first, *keys)
+    run("bash", "-c", 'umask 077; exec "$0" "$@"', ROOT / "dev", "package", program, built.judge(program), second, *keys, cwd="/",
         env={**os.environ, "TZ": "Asia/Tokyo", "LC_ALL": "C"})
     want(contents(first) == contents(second), "two runs did not give the same bytes")
     sums = dict(reversed(line.split("  ")) for line in (first / "SHA256SUMS").read_text().splitlines())
@@ -71,7 +73,7 @@ def holds_tarball(tarball):
     with tarfile.open(tarball) as tar:
         for entry in tar:
             name = entry.name.partition("/")[2]
-            is_program = entry.isdir() or name in ("vacation", "kv_judge", "explain", "convert", "benchmark/build", "benchmark/run",
+            is_program = entry.isdir() or name in ("vacation", "judge", "kv_judge", "explain", "convert", "benchmark/build", "benchmark/run",
                                                    "benchmark/checkers/run", "benchmark/databases/run")
             modes = (0o755,) if is_program else (0o755, 0o644) if name.endswith(".py") else (0o644,)
             want((entry.uid, entry.gid, entry.uname, entry.gname) == (0, 0, "root", "root"), f"owner of {entry.name}")
@@ -107,6 +109,12 @@ def entered(folder, program, tarball):
     return [unpacked / "vacation"], unpacked
 
 
+def judge_of(ours):
+    """The words that run the unpacked judge, which stands beside the program."""
+    *before, program = ours
+    return [*before, re.sub(r"vacation$", "judge", str(program))]
+
+
 def holds_subcommands(ours):
     """Each subcommand, with what the rules say of it."""
     want(run(*ours, "run", given=BILL) == "true\ntrue\ntrue\n100\n", "run")
@@ -114,9 +122,10 @@ def holds_subcommands(ours):
     want(len(words.splitlines()) == 24, "dump")
     want(run(*ours, "check", given=words) == "cars=1 flights=0 rooms=0 customers=0 bookings=0 used=0 free=100"
          " total=100 billed=0\n", "check")
-    want(run(*ours, "judge", given=LEGAL).startswith("legal calls=4 clients=3\n"), "judge")
-    want(run(*ours, "judge", given=LEGAL.replace("bill 3 -> 50", "bill 3 -> 0"), status=1)
-         == "illegal reply 4 50\n", "judge")
+    judge = judge_of(ours)
+    want(run(*judge, given=LEGAL).startswith("legal calls=4 clients=3\n"), "judge")
+    want(run(*judge, "history", "--given-order", given=LEGAL.replace("bill 3 -> 50", "bill 3 -> 0"), status=1)
+         == "illegal reply 4 50\n", "judge history")
     answered, report = run(*ours, "load", "--clients", "2", "--tasks", "50").splitlines()
     want(sum(map(int, answered.split()[1::2])) == 100, "load")
     told = dict(part.split("=") for part in report.split())
@@ -135,7 +144,7 @@ def holds_proved(ours, unpacked):
     want(head[0] == title and head[1].startswith(f"commit {commit}") and head[2] == kit, "the head of PROVED")
     changes = run("git", "-c", f"safe.directory={ROOT}", "status", "--porcelain", cwd=ROOT)
     want(("not committed" in head[1]) == bool(changes), "PROVED on changes that are not committed")
-    for line, name in zip(head[3:], filter(lambda name: (unpacked / name).is_file(), ("vacation", "kv_judge"))):
+    for line, name in zip(head[3:], filter(lambda name: (unpacked / name).is_file(), ("vacation", "judge", "kv_judge"))):
         sum = hashlib.sha256((unpacked / name).read_bytes()).hexdigest()
         want(line in (f"sha256 {sum}", f"sha256 {sum} {name}"), f"the sum of {name}")
     said = " ".join(text.split())
@@ -167,7 +176,7 @@ def holds_peer(ours, unpacked, folder):
     drawn = run(*ours, "tasks", "--clients", "3", "--tasks", "100", "--items", "8")
     options = ("--history", "--jitter", "1", "--patience", "30", "--tries", "1000000")
     history = run(folder / "tl2", *options, given=drawn)
-    want(run(*ours, "judge", given=history).startswith("legal calls=332 clients=4\n"), "the peer's history")
+    want(run(*judge_of(ours), "history", "--given-order", given=history).startswith("legal calls=332 clients=4\n"), "the peer's history")
     holds_interface(ours, unpacked, folder, drawn, options)
     said = run(sys.executable, "-B", unpacked / "benchmark/mutants/try.py", "--check")
     want(re.fullmatch(r"mutants: [1-9]\d* edits can be made\n", said), "the mutants")
@@ -179,14 +188,14 @@ def holds_interface(ours, unpacked, folder, drawn, options):
     if not shutil.which("cc"):
         skipped("there is no C compiler")
         return
-    built = folder / "built"
-    run("bash", unpacked / "benchmark/build", built, "--interface", env={**os.environ, "CXXFLAGS": "-O1"})
+    made = folder / "built"
+    run("bash", unpacked / "benchmark/build", made, "--interface", env={**os.environ, "CXXFLAGS": "-O1"})
     template = Path("share/vacation/templates/c/tl2.c")
     text = (unpacked / template).read_text(encoding="utf-8")
     (command,) = re.findall(r"^ \*     (cc .*)$", text, flags=re.M)
     run("bash", "-c", command, cwd=unpacked)
-    history = run(built / "peer", unpacked / "tl2.so", *options, given=drawn)
-    want(run(*ours, "judge", given=history).startswith("legal calls=332 clients=4\n"), "the template's history")
+    history = run(made / "peer", unpacked / "tl2.so", *options, given=drawn)
+    want(run(*judge_of(ours), "history", "--given-order", given=history).startswith("legal calls=332 clients=4\n"), "the template's history")
 
 
 def slug(heading):
@@ -223,7 +232,7 @@ def holds_explanation(ours, unpacked):
     log = unpacked / "docs/anomaly/smallest.log"
     text = run(sys.executable, "-B", unpacked / "explain", log, status=1)
     want("write skew (G2, by a phantom)" in text and "proved illegal: the log of 4 calls" in text, text)
-    want(run(*ours, "judge", "--any-order", given=log.read_text(encoding="ascii"), status=1).startswith("illegal"),
+    want(run(*judge_of(ours), "history", given=log.read_text(encoding="ascii"), status=1).startswith("illegal"),
          "the smallest run is legal")
 
 
@@ -264,17 +273,19 @@ def holds_manual(ours, share):
     if not shutil.which("man") or not run("man", "--version").startswith("man "):
         skipped("there is no man")
         return
-    program, history = shown(share / "man/man1/vacation.1"), shown(share / "man/man5/vacation-history.5")
-    for command, options in options_of(ours).items():
-        want(f"vacation {command}" in program, f"vacation(1) has no {command}")
-        want(all(option in program for option in options), f"vacation(1) on {command}")
+    history = shown(share / "man/man5/vacation-history.5")
+    for name, words in (("vacation", ours), ("judge", judge_of(ours))):
+        program = shown(share / f"man/man1/{name}.1")
+        for command, options in options_of(words).items():
+            want(f"{name} {command}" in program, f"{name}(1) has no {command}")
+            want(all(option in program for option in options), f"{name}(1) on {command}")
+        usages = program.split("SYNOPSIS ")[1].split(" DESCRIPTION")[0]
+        want(len(re.findall(rf"(?:^| ){name} ", usages)) == len(options_of(words)), f"SYNOPSIS of {name}(1): {usages}")
+        want("./" + name not in program + history, "a manual page names the script")
     want(all(word in history.split() for word in WORDS), "vacation-history(5)")
     want("CLIENT BEGIN END LINE -> REPLY" in history, "vacation-history(5)")
-    want("./vacation" not in program + history, "a manual page names the script")
     want(all(word in history for word in ("commit|abort [r A V | w A V]", "put-if-absent", "illegal places")),
          "vacation-history(5) on attempts and keys")
-    usages = program.split("SYNOPSIS ")[1].split(" DESCRIPTION")[0]
-    want(len(re.findall(r"(?:^| )vacation ", usages)) == len(options_of(ours)), f"SYNOPSIS of vacation(1): {usages}")
     keys = share / "man/man1/kv_judge.1"
     want(keys.exists() == (share.parent / "kv_judge").exists(), "there should be kv_judge(1) beside kv_judge alone")
     if keys.exists():
@@ -283,14 +294,15 @@ def holds_manual(ours, share):
 
 
 def holds_completions(ours, share):
-    def completed(*words):
-        script = '. "$0"; COMP_WORDS=("$@"); COMP_CWORD=$(($# - 1)); _vacation; echo "${COMPREPLY[@]}"'
-        return run("bash", "-c", script, share / "bash-completion/completions/vacation", "vacation", *words).split()
+    def completed(name, *words):
+        script = f'. "$0"; COMP_WORDS=("$@"); COMP_CWORD=$(($# - 1)); _{name}; echo "${{COMPREPLY[@]}}"'
+        return run("bash", "-c", script, share / f"bash-completion/completions/{name}", name, *words).split()
 
-    want(completed("ju") == ["judge"] and completed("judge", "--b") == ["--blocks"], "completions")
-    want(completed("load", "--clients", "") == [], "completions of a number")
-    for command, options in options_of(ours).items():
-        want(set(options) <= set(completed(command, "--")), f"completions of {command}")
+    want(completed("vacation", "du") == ["dump"] and completed("judge", "history", "--b") == ["--blocks"], "completions")
+    want(completed("vacation", "load", "--clients", "") == [], "completions of a number")
+    for name, words in (("vacation", ours), ("judge", judge_of(ours))):
+        for command, options in options_of(words).items():
+            want(set(options) <= set(completed(name, command, "--")), f"completions of {name} {command}")
 
 
 def holds_debian(packed, unpacked, folder):
@@ -301,7 +313,7 @@ def holds_debian(packed, unpacked, folder):
         return
     installed = folder / "installed"
     run("dpkg-deb", "-x", *found, installed)
-    same = {"usr/bin/vacation": "vacation", "usr/share/bash-completion/completions/vacation":
+    same = {"usr/bin/vacation": "vacation", "usr/bin/judge": "judge", "usr/share/bash-completion/completions/vacation":
             "share/bash-completion/completions/vacation", "usr/share/doc/pighvelo/PROVED": "PROVED",
             "usr/include/vacation/vacation_tm.h": "include/vacation_tm.h",
             "usr/share/vacation/templates/c/tl2.c": "share/vacation/templates/c/tl2.c"}

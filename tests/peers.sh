@@ -1,18 +1,21 @@
 #!/usr/bin/env bash
-# Builds the peers of the benchmark (benchmark/peers), and has 'vacation judge' call the history of
+# Builds the peers of the benchmark (benchmark/peers), and has 'judge history' call the history of
 # each legal and whole: of short loads from calm to crowded, drawn by 'vacation tasks', and of a list
 # with each line of the table. A peer's report must be that of the state which its calls leave. With
-# their steps drawn apart, their attempts are opaque, where the program judges attempts. A peer that
+# their steps drawn apart, their attempts are opaque. A peer that
 # crashes and one that stands still, written here, are told as such, and what they had answered is
 # there. Under the address and undefined-behaviour sanitizers, where the compiler has them, runtimes
 # without validation lead no walk out of the heap. The tasks that a peer draws itself are those that 'vacation tasks' writes, byte for byte. The
 # mistakes of benchmark/mutants can be made. Where there is no C++ compiler, or the program draws no
-# tasks or does not judge, nothing is tried and the test says so. The argument is the program, a file
-# that is built already; with none it is the one that the repository's last build left.
+# tasks, or the judge is not built, nothing is tried and the test says so. The argument is the program vacation, a
+# file that is built already; with none it is the one that the repository's last build left. The judge stands beside
+# it, or in its own crate.
 set -euo pipefail
 export LC_ALL=C
 root="$(dirname "$(readlink -f "${BASH_SOURCE[0]}")")/.."
 program="${1:-$root/crates/vacation/out/vacation}"
+judge="$(dirname "$(readlink -f "$program")")/judge"
+[ -x "$judge" ] || judge="$(dirname "$(readlink -f "$program")")/../../judge/out/judge"
 work="$(mktemp -d)"
 trap 'rm -rf "$work"' EXIT
 
@@ -110,14 +113,14 @@ run_peer() {
 
 # Runs a peer on the tasks of a file, and has its history judged.
 try_peer() {
-    local peer="$1" tasks="$2" blocks="$3" name="$4" verdict report whole=()
+    local peer="$1" tasks="$2" blocks="$3" name="$4" verdict report whole
     if ! run_peer "$peer" --blocks "$blocks" --history < "$tasks" \
         > "$work/history" 2> "$work/told"; then
         echo "peers: $peer, $name: it failed: $(tail -n 1 "$work/told")" >&2
         return 1
     fi
-    [ "$judges_work" = 0 ] || whole=(--tasks "$tasks")
-    verdict="$("$program" judge --blocks "$blocks" "${whole[@]}" < "$work/history" || true)"
+    whole=(--tasks "$tasks")
+    verdict="$("$judge" history --given-order --blocks "$blocks" "${whole[@]}" < "$work/history" || true)"
     report="$(grep '^cars=' "$work/told")"
     if [[ "$verdict" != "legal calls=$(wc -l < "$tasks") clients="*$'\n'"$report" ]]; then
         echo "peers: $peer, $name: the judge says '$verdict' of $(wc -l < "$tasks") tasks;" \
@@ -139,16 +142,16 @@ DRAWN=(
 # A peer writes the same tasks as the program, byte for byte, and does these where its clients draw
 # them.
 try_draws() {
-    local peer="$1" load="$2" options verdict whole=()
+    local peer="$1" load="$2" options verdict whole
     read -ra options <<< "$load"
-    [ "$judges_work" = 0 ] || whole=(--tasks "$work/tasks")
+    whole=(--tasks "$work/tasks")
     "$program" tasks "${options[@]}" > "$work/tasks"
     if ! "$work/$peer" --print "${options[@]}" | cmp -s - "$work/tasks"; then
         echo "peers: $peer draws other tasks than 'tasks' writes: $load" >&2
         return 1
     fi
     run_peer "$peer" --draw --history "${options[@]}" > "$work/history" 2> "$work/told" || true
-    verdict="$("$program" judge --blocks "$(blocks_of "$load")" "${whole[@]}" < "$work/history" || true)"
+    verdict="$("$judge" history --given-order --blocks "$(blocks_of "$load")" "${whole[@]}" < "$work/history" || true)"
     if [[ "$verdict" != "legal calls=$(wc -l < "$work/tasks") clients="*$'\n'"$(grep '^cars=' "$work/told")" ]]; then
         echo "peers: $peer --draw $load: the judge says '$verdict'; $(tail -n 1 "$work/told")" >&2
         return 1
@@ -159,7 +162,7 @@ try_draws() {
 try_attempts() {
     local peer="$1" tasks="$2" blocks="$3" name="$4" verdict
     run_peer "$peer" --blocks "$blocks" --attempts --jitter 7 < "$tasks" > "$work/attempts" 2> "$work/told"
-    verdict="$("$program" opaque --words "$((16 + 8 * blocks))" < "$work/attempts" || true)"
+    verdict="$("$judge" attempts --words "$((16 + 8 * blocks))" < "$work/attempts" || true)"
     if [[ "$verdict" != "opaque attempts="*" committed="*" clients="* ]]; then
         echo "peers: $peer, $name: of its attempts the judge says '$verdict'" >&2
         return 1
@@ -200,7 +203,7 @@ try_faulty() {
     "$program" tasks --clients 2 --tasks 200 --items 5 > "$work/tasks"
     "$work/faulty" --history --patience 1 "$@" < "$work/tasks" > "$work/history" 2> "$work/told" || found=$?
     if [ "$found" != "$status" ] || ! grep -q "$word" "$work/told" ||
-        [[ "$("$program" judge --any-order < "$work/history")" != "legal calls="* ]] ||
+        [[ "$("$judge" history < "$work/history")" != "legal calls="* ]] ||
         [ "$(grep -c '^[12] ' "$work/history")" -lt 100 ]; then
         echo "peers: a faulty peer ($*): status $found, $(wc -l < "$work/history") calls, $(cat "$work/told")" >&2
         return 1
@@ -240,16 +243,10 @@ if [ ! -x "$program" ]; then
     echo "peers: there is no program at $program: './vacation' builds it" >&2
     exit 1
 fi
-for subcommand in tasks judge; do
-    "$program" "$subcommand" --help > /dev/null 2>&1 || skip "this program has no '$subcommand'"
-done
+"$program" tasks --help > /dev/null 2>&1 || skip "this program has no 'tasks'"
+[ -x "$judge" ] || skip "there is no program at $judge: './judge' builds it"
 command -v g++ > /dev/null 2>&1 || command -v c++ > /dev/null 2>&1 ||
     skip "there is no C++ compiler (g++ or c++)"
-
-judges_work=0
-if "$program" judge --help | grep -q -- --tasks; then judges_work=1; fi
-judges_attempts=0
-if "$program" opaque --help > /dev/null 2>&1; then judges_attempts=1; fi
 
 export CXXFLAGS="${CXXFLAGS:--O1}"
 mapfile -t peers < <("$root/benchmark/build" "$work")
@@ -268,7 +265,7 @@ for load in "${LOADS[@]}" "each line"; do
     for peer in "${peers[@]}"; do
         tried=$((tried + 1))
         try_peer "$peer" "$work/tasks" "$(blocks_of "$load")" "$load" || failed=$((failed + 1))
-        if [ "$judges_attempts" = 1 ] && [[ "$load" = *--clients\ [2-4]\ * ]]; then
+        if [[ "$load" = *--clients\ [2-4]\ * ]]; then
             tried=$((tried + 1))
             try_attempts "$peer" "$work/tasks" "$(blocks_of "$load")" "$load" || failed=$((failed + 1))
         fi

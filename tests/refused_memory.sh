@@ -3,16 +3,23 @@
 # version and of a load, with its history or without, in turn, counting upwards until one ends with none refused. Each names the fault and has written a prefix of the whole
 # output, or it did without that memory and has written all of it; a load may count the task that
 # wanted the memory in its tally instead. In a load of one client the faults come in a known order, so
-# that each allocation has its fault's name. Its argument is the program, a file that is built already;
-# with none it is the one that the repository's last build left.
+# that each allocation has its fault's name. Its argument is the program vacation, a file that is built
+# already; with none it is the one that the repository's last build left. The judge stands beside it, or in its own
+# crate.
 set -euo pipefail
 root="$(dirname "$(readlink -f "${BASH_SOURCE[0]}")")/.."
 program="${1:-$root/crates/vacation/out/vacation}"
+judge="$(dirname "$(readlink -f "$program")")/judge"
+[ -x "$judge" ] || judge="$(dirname "$(readlink -f "$program")")/../../judge/out/judge"
 work="$(mktemp -d)"
 trap 'rm -rf "$work"' EXIT
 
 if [ ! -x "$program" ]; then
     echo "refused_memory: there is no program at $program: './vacation' builds it" >&2
+    exit 1
+fi
+if [ ! -x "$judge" ]; then
+    echo "refused_memory: there is no program at $judge: './judge' builds it" >&2
     exit 1
 fi
 if ! command -v cc > /dev/null 2>&1; then
@@ -57,10 +64,11 @@ C
     for id in $(seq 1 9000); do echo "free car $id"; done
 } > "$work/script"
 
-# Refuses each allocation of the program on this input and these words in turn.
+# Refuses each allocation of a program, whose status of a fault is the second word, on this input and these words in
+# turn.
 refuse_each() {
-    local named=0 number status size input="$1"
-    shift
+    local named=0 number status size program="$1" fault="$2" input="$3"
+    shift 3
     "$program" "$@" < "$input" > "$work/whole"
     for number in $(seq 1 2000); do
         status=0
@@ -74,7 +82,7 @@ refuse_each() {
         if [ "$status" = 0 ] && cmp -s "$work/out" "$work/whole"; then
             continue
         fi
-        if [ "$status" != 1 ] || [ "$(tail -n 1 "$work/out")" != "fault memory" ]; then
+        if [ "$status" != "$fault" ] || [ "$(tail -n 1 "$work/out")" != "fault memory" ]; then
             echo "refused_memory: $*: allocation $number refused: status $status, and no 'fault memory'" >&2
             return 1
         fi
@@ -109,7 +117,7 @@ refuse_each_of_history() {
             echo "refused_memory: $*: allocation $number refused: status $status, and no fault" >&2
             return 1
         fi
-        if ! "$program" judge < "$work/out" > "$work/verdict"; then
+        if ! "$judge" history --given-order < "$work/out" > "$work/verdict"; then
             echo "refused_memory: $*: allocation $number refused: its history is not legal" >&2
             return 1
         fi
@@ -180,15 +188,18 @@ drawn=(--clients 1 --tasks 50 --items 8 --asks 32 --blocks 64)
 "$program" tasks "${drawn[@]}" > "$work/tasks"
 "$program" load "${drawn[@]}" --history > "$work/history" 2> /dev/null
 
-refuse_each "$work/script" run
-refuse_each "$work/script" dump
+refuse_each "$program" 1 "$work/script" run
+refuse_each "$program" 1 "$work/script" dump
 "$program" dump < "$work/script" > "$work/words"
-refuse_each "$work/words" check
-refuse_each "$work/history" judge --blocks 64
-refuse_each "$work/history" judge --blocks 64 --tasks "$work/tasks"
-refuse_each /dev/null tasks "${drawn[@]}"
-refuse_each /dev/null --help
-refuse_each /dev/null --version
+refuse_each "$program" 1 "$work/words" check
+refuse_each "$judge" 4 "$work/history" history --given-order --blocks 64
+refuse_each "$judge" 4 "$work/history" history --given-order --blocks 64 --tasks "$work/tasks"
+refuse_each "$program" 1 /dev/null tasks "${drawn[@]}"
+for each in "$program 1" "$judge 4"; do
+    read -r path fault <<< "$each"
+    refuse_each "$path" "$fault" /dev/null --help
+    refuse_each "$path" "$fault" /dev/null --version
+done
 refuse_each_of_history load --clients 1 --tasks 2 --rounds 2 --items 2 --blocks 64 --history
 # (how many allocations the threads of two clients make before the next round differs from run to run)
 refuse_each_of_load 2 0 '[mosdc]*[mos][mosdc]*'

@@ -1,10 +1,13 @@
 #!/usr/bin/env bash
-# Runs the program on each row of tests/row_data, and compares what it writes and its status with what the row says. A
-# row is a folder of files: 'args', one word a line; 'input'; 'output'; and 'status'. A file that is not there is empty,
-# and the status is then 0. A row is added by adding its folder; one with a file of another name fails. Many small rows
-# are one file NAME.cases, which tests/cases.py reads. Text on standard error is wanted if the command line is refused,
-# status 2, and in no other case, but that a judge may warn of a log that shows little. The argument is the program, a
-# file that is built already; with none it is the one that the repository's last build left.
+# Runs a program on each row of tests/row_data, and compares what it writes and its status with
+# what the row says. A row is a folder of files: 'program', the name of the program; 'args', one word
+# a line; 'input'; 'output'; and 'status'. A file that is not there is empty, the status is then 0, and
+# the program is vacation. A row is added by adding its folder; one with a file of another name fails.
+# Text on standard error is wanted if the command line is refused, status 2, and in no other case, but
+# that a judge may warn of a log that shows little. Many small rows are one file NAME.cases, which
+# tests/cases.py reads. The argument is the program vacation, a file that is built already; with none
+# it is the one that the repository's last build left. Another program is beside it, or where the
+# build of its own crate left it.
 set -euo pipefail
 export LC_ALL=C
 tests="$(dirname "$(readlink -f "${BASH_SOURCE[0]}")")"
@@ -17,32 +20,43 @@ if [ ! -x "$program" ]; then
     exit 1
 fi
 
+# The file of the program with this name.
+file_of() {
+    local folder
+    folder="$(dirname "$(readlink -f "$program")")"
+    if [ "$1" = vacation ]; then
+        echo "$program"
+    elif [ -x "$folder/$1" ]; then
+        echo "$folder/$1"
+    else
+        echo "$folder/../../$1/out/$1"
+    fi
+}
+
 # The file of a row, or an empty one.
 part() {
     if [ -f "$1/$2" ]; then echo "$1/$2"; else echo /dev/null; fi
 }
 
 # Runs the words of a command line, the name of a program and its words. (Exported: cases.py runs it too.)
-export built_vacation="$program"
 run_words() {
-    case "$1" in
-        vacation) timeout 60 "$built_vacation" "${@:2}" ;;
-        *) echo "rows: there is no program $1" >&2; return 127 ;;
-    esac
+    timeout 60 "$(file_of "$1")" "${@:2}"
 }
-export -f run_words
+export program
+export -f file_of run_words
 
 # Runs one row; says what differs.
 run_row() {
-    local row="$1" words=() status=0 wanted=0 refused=0 complains=0 other
-    other="$(find "$row" -mindepth 1 ! -name args ! -name input ! -name output ! -name status)"
+    local row="$1" words=() status=0 wanted=0 refused=0 complains=0 other name=vacation
+    other="$(find "$row" -mindepth 1 ! -name program ! -name args ! -name input ! -name output ! -name status)"
     if [ -n "$other" ]; then
         echo "rows: $(basename "$row"): no file of a row: $other" >&2
         return 1
     fi
+    [ ! -f "$row/program" ] || name="$(cat "$row/program")"
     mapfile -t words < "$(part "$row" args)"
     [ ! -f "$row/status" ] || wanted="$(cat "$row/status")"
-    run_words vacation "${words[@]}" < "$(part "$row" input)" \
+    run_words "$name" "${words[@]}" < "$(part "$row" input)" \
         > "$work/output" 2> "$work/errors" || status=$?
     ! grep -qv '^warning: ' "$work/errors" || refused=1
     if [ "$status" != "$wanted" ]; then

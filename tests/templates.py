@@ -13,6 +13,8 @@ import sys
 import tempfile
 from pathlib import Path
 
+import built
+
 ROOT = Path(__file__).resolve().parent.parent
 TEMPLATES = ROOT / "share/vacation/templates"
 PATIENCE = 400
@@ -88,7 +90,7 @@ def head_commands(template):
         if held.endswith("&&"):
             held += " "
             continue
-        if held.split()[0] in (*COMPILERS, "./vacation", "built/peer", "python3", "./stamp", "./stm"):
+        if held.split()[0] in (*COMPILERS, "./vacation", "./judge", "built/peer", "python3", "./stamp", "./stm"):
             commands.append(held)
         held = ""
     return commands
@@ -102,6 +104,7 @@ class Folder:
         for name in ("include", "share"):
             (self.path / name).symlink_to(ROOT / name)
         (self.path / "vacation").symlink_to(program)
+        (self.path / "judge").symlink_to(os.path.abspath(built.judge(program)))
         self.environment = {**os.environ, "PWD": str(path), "PYTHONDONTWRITEBYTECODE": "1",
                             "GOCACHE": str(self.path / "go-cache")}
 
@@ -120,7 +123,7 @@ def try_commands(folder, template, commands):
     for command in commands:
         done = folder.run(command)
         last = command.rsplit("&&", 1)[-1].split()
-        good = "legal calls=4032 clients=5\n" if "judge" in last else "opaque attempts=" if "opaque" in last else ""
+        good = "opaque attempts=" if "attempts" in last[:2] else "legal calls=4032 clients=5\n" if "./judge" in last else ""
         wants_words = good and not done.stdout.startswith(good)
         if wants_words or not good and (done.returncode != 0 or "warning" in done.stderr):
             want(False, f"{template}: {command}: status {done.returncode}: {done.stdout[:200]}{done.stderr[-400:]}")
@@ -132,7 +135,7 @@ def try_mistake(folder, template, commands, mistake):
     """The same with the mistake, until the judge finds it. A run that hung or crashed is judged, too."""
     old, new = mistake
     wrong = [command.replace(old, new, 1) if command.startswith(old) or not is_build(command) else command
-             for command in commands if "opaque" not in command]
+             for command in commands if "judge attempts" not in command]
     for command in filter(is_build, wrong):
         folder.run(command)
     runs = [command.replace(" && ", "; ") for command in wrong
@@ -152,7 +155,7 @@ def try_faults(folder, template, commands):
     for options, is_fault in (("--crash-at 50", lambda status: status not in (0, 3)),
                               ("--hang-at 50 --patience 2", lambda status: status == 3)):
         done = folder.run(command.replace("< work", f"{options} < work"))
-        judged = folder.run("./vacation judge --any-order < log").stdout
+        judged = folder.run("./judge < log").stdout
         calls = int((re.findall(r"^legal calls=(\d+) ", judged) or ["0"])[0])
         want(is_fault(done.returncode) and calls >= 82,
              f"{template} {options}: status {done.returncode}, the judge says {judged!r}")
@@ -166,7 +169,7 @@ def try_faulty_object(folder):
         for _ in range(runs):
             done = folder.run(f"{environment} built/peer ./faulty.so --history --patience 2 < work > log")
             is_cut_short = (folder.path / "log").read_bytes().endswith(b" -> ?\n")
-            judged = folder.run("./vacation judge --any-order < log").stdout
+            judged = folder.run("./judge < log").stdout
             want(done.returncode == status and is_cut_short and judged.startswith("legal calls="),
                  f"a faulty object {environment}: status {done.returncode}, the judge says {judged!r}")
 

@@ -18,6 +18,7 @@ import secrets
 import subprocess
 import sys
 import tempfile
+import time
 from concurrent.futures import FIRST_COMPLETED, ThreadPoolExecutor, wait
 from importlib.machinery import SourceFileLoader
 from shutil import rmtree, which
@@ -26,6 +27,10 @@ MOST_JOBS = 4
 
 # What a crate costs besides its lines of code, in such lines: what stands below it is loaded first.
 LOADING = 100
+# What it costs to compile and link the program, in such lines.
+LINKING = 300
+# Seconds that a line takes on one processor, as long as nothing is measured yet.
+SECONDS_A_LINE = 0.14
 
 
 def kit_module():
@@ -57,7 +62,7 @@ def cost_of(crate):
 class Building:
     """The libraries that are left to prove, those that are being proved, and the program above them."""
 
-    def __init__(self, kit, processors, caller="vacation"):
+    def __init__(self, kit, processors, caller):
         self.kit, self.processors, self.caller = kit, processors, caller
         here = os.getcwd()
         self.program = kit.Crate(here, kit.root_above(here) or here, {})
@@ -72,6 +77,25 @@ class Building:
                 crate.rlib = f"{crate.folder}/out/start/{crate.name}.rlib"
             self.left = self.unbuilt()
         self.all, self.running, self.failed = len(self.left), {}, False
+        self.began, self.lines_at_first = time.monotonic(), self.lines_left()
+
+    def lines_left(self):
+        """The lines that one processor after the other has before it until the program is built: an even share of all,
+        or the longest chain."""
+        waiting = {*self.left, *(crate for crate, _ in self.running.values())}
+        chains = {}
+        for crate in reversed([crate for crate in self.libraries if crate in waiting]):
+            above = [chains[other] for other in chains if crate in other.below()]
+            chains[crate] = cost_of(crate) + max(above, default=0)
+        shared = sum(map(cost_of, waiting)) / self.processors
+        return max([shared, *chains.values()]) + cost_of(self.program) + LINKING
+
+    def minutes_left(self):
+        """Tells how long the rest takes, by what was measured so far."""
+        lines, done = self.lines_left(), self.lines_at_first - self.lines_left()
+        pace = (time.monotonic() - self.began) / done if done > LOADING else SECONDS_A_LINE
+        minutes = round(lines * pace / 60)
+        return "about a minute" if minutes < 2 else f"about {minutes} minutes"
 
     @staticmethod
     def mark(crate):
@@ -131,7 +155,7 @@ class Building:
             crate, _ = self.running.pop(future)
             if future.result():
                 done = len(self.left) + len(self.running)
-                print(f"{self.caller}: proved {crate.name}, {done} left", flush=True)
+                print(f"{self.caller}: proved {crate.name}, {done} left, {self.minutes_left()}", flush=True)
             else:
                 self.failed = True
                 self.tell(crate)
@@ -140,6 +164,11 @@ class Building:
         """What the toolchain said of a crate that is not proved."""
         crate.out.seek(0)
         print(f"{self.caller}: {crate.name} is not proved\n{crate.out.read()}", flush=True)
+
+    def announce(self):
+        """Says how much there is to prove, and how long it takes."""
+        print(f"{self.caller}: {self.all} of {len(self.libraries)} libraries are to be proved, {self.minutes_left()} "
+              f"on {self.processors} processors", flush=True)
 
     def prove_libraries(self):
         """Returns whether all libraries are proved."""
@@ -162,7 +191,7 @@ class Building:
         if program.compile(["--jobs", str(jobs)], f"{made}.o") or program.call(f"{kit.KIT}/bin/rattle-link", *words):
             self.tell(program)
             return False
-        words = ["run"] if program.name == self.caller else []
+        words = ["run"] if program.name == "vacation" else []
         ran = subprocess.run([f"{made}.new", *words], stdin=subprocess.DEVNULL, stdout=subprocess.DEVNULL, check=False)
         if ran.returncode == 0:
             os.replace(f"{made}.new", made)
@@ -175,9 +204,10 @@ def main():
     try:
         kit = kit_module()
         kit.guarded()
-        building = Building(kit, max(1, int(sys.argv[1])))
+        building = Building(kit, max(1, int(sys.argv[1])), os.path.basename(os.getcwd()))
+        building.announce()
     except (AttributeError, ImportError, OSError, TypeError) as fault:
-        print(f"vacation: {fault}", flush=True)
+        print(f"{os.path.basename(os.getcwd())}: {fault}", flush=True)
         sys.exit(3)
     sys.exit(0 if building.prove_libraries() and building.link() else 1)
 

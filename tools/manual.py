@@ -144,7 +144,7 @@ def table_of(table):
 
 def code_of(lines):
     """Lines as they stand, of a program that is installed."""
-    installed = re.sub(r"\./(vacation|kv_judge)\b", r"\1", "\n".join(lines)).replace(" | ", " |\n      ")
+    installed = re.sub(r"\./(vacation|judge|kv_judge)\b", r"\1", "\n".join(lines)).replace(" | ", " |\n      ")
     shown = [literal(line) for line in installed.split("\n")]
     shown = [f"\\&{line}" if line[:1] in (".", "\\") else line for line in shown]
     return "\n".join([".PP", ".in +4n", ".nf", *shown, ".fi", ".in"])
@@ -165,36 +165,40 @@ def option_of(flags, text):
     return tagged(f"{tag} \\fI{takes.group(1)}\\fR" if takes else tag, marked(text))
 
 
-def usage_of(usage):
+def usage_of(program, usage):
     """A usage: the words of the command in bold, and what it takes as clap writes it. The file of the program
     whose help was read may have another name."""
-    words = ["vacation", *usage.split(" ")[1:]]
+    words = [program, *usage.split(" ")[1:]]
     fixed = [word for word in words if word[0] not in "<["]
     return " ".join([bold(" ".join(fixed)), *[f"\\fI{literal(word)}\\fR" for word in words[len(fixed):]]])
 
 
-def of_the_program(table):
-    """The table on what ends the program: without what the script of the repository adds to it."""
-    for *heads, text in table:
-        text = "; ".join(part for part in text.split("; ") if "./vacation" not in part)
-        if text and not any("./vacation" in cell for cell in heads):
-            yield [*heads, text]
+def of_the_program(table, program):
+    """The rows on what ends a program, of a table with a column for each: without what the script of the repository
+    adds to it."""
+    head, *rows = table
+    column = head.index(f"Of `{program}`")
+    yield [head[0], "Meaning"]
+    for row in rows:
+        text = "; ".join(part for part in row[column].split("; ") if "`./" not in part)
+        if text:
+            yield [row[0], text]
 
 
 def head(name, number, version, day, title):
     return f'.TH {name} {number} {day} "{version}" "{title}"\n.nh\n.ad l'
 
 
-def program_page(whole, commands, using, version, day):
-    """The manual page of the program, from its help, the help of each subcommand by its name, and the page
-    on how to use it."""
+def program_page(program, whole, commands, using, version, day, examples):
+    """The manual page of a program, from its help, the help of each subcommand by its name, and the page
+    on how to use it, with the headings of its examples there."""
     wrong = section(using, "## When something goes wrong")
     ends, faults = [block for kind, block in blocks(wrong) if kind == "table"]
     about = whole.about[:1].lower() + whole.about[1:]
-    lines = [head("VACATION", 1, version, day, "User Commands"),
-             ".SH NAME", f"vacation \\- {marked(about)}", ".SH SYNOPSIS"]
-    usages = [usage_of(command.usage) for command in commands.values()]
-    lines += ["\n.br\n".join(usages), ".SH DESCRIPTION", marked(first("text", using).split(". ")[0] + ".")]
+    lines = [head(program.upper(), 1, version, day, "User Commands"),
+             ".SH NAME", f"{program} \\- {marked(about)}", ".SH SYNOPSIS"]
+    usages = [usage_of(program, command.usage) for command in commands.values()]
+    lines += ["\n.br\n".join(usages), ".SH DESCRIPTION", marked(". ".join(first("text", using).split(". ")[:2]) + ".")]
     lines += [".SH COMMANDS"]
     for name, text in whole.commands:
         lines += [f".SS {literal(name)}", marked(text) + "."]
@@ -202,11 +206,11 @@ def program_page(whole, commands, using, version, day):
             lines += [option_of(*option) for option in commands[name].options]
             lines += [code_of(commands[name].example)] if commands[name].example else []
     lines += [".SH OPTIONS", *[option_of(*option) for option in whole.options]]
-    lines += [".SH EXIT STATUS", table_of(of_the_program(ends))]
+    lines += [".SH EXIT STATUS", table_of(of_the_program(ends, program))]
     lines += [".SH DIAGNOSTICS", "The last line names the fault:", table_of(faults)]
-    lines += [".SH EXAMPLES", code_of(first("code", section(using, "## `run`: commands and their replies"))),
-              code_of(first("code", section(using, "## `judge`: whether a history is legal")))]
-    lines += [".SH SEE ALSO", f"{bold('vacation-history')}(5), {bold('kv_judge')}(1)"]
+    lines += [".SH EXAMPLES", *(code_of(first("code", section(using, heading))) for heading in examples)]
+    others = [other for other in ("judge", "kv_judge", "vacation") if other != program]
+    lines += [".SH SEE ALSO", ", ".join([f"{bold('vacation-history')}(5)", *(f"{bold(other)}(1)" for other in others)])]
     return "\n".join(lines) + "\n"
 
 
@@ -216,7 +220,7 @@ def history_page(rules, using, version, day):
     words = first("text", run, "KIND is")
     lines = [head("VACATION-HISTORY", 5, version, day, "File Formats"),
              ".SH NAME",
-             "vacation-history \\- calls and attempts, as vacation judge, vacation opaque and kv_judge read them",
+             "vacation-history \\- calls and attempts, as judge and kv_judge read them",
              ".SH DESCRIPTION", roff(section(rules, "### Histories")),
              ".SH LINES AND REPLIES", marked(words)]
     for heading in ("Items", "Customers and bookings", "Whole tasks"):
@@ -227,8 +231,8 @@ def history_page(rules, using, version, day):
               table_of(first("table", section(using, "### Lines that are no command")))]
     lines += [".SH TEXTS OF ATTEMPTS", roff(section(rules, "### Texts of attempts"))]
     lines += [".SH HISTORIES OF A KEY-VALUE STORE", roff(section(rules, "### Histories of a key-value store"))]
-    lines += [".SH EXAMPLES", code_of(first("code", section(using, "## `judge`: whether a history is legal"))),
-              ".SH SEE ALSO", f"{bold('vacation')}(1), {bold('kv_judge')}(1)"]
+    lines += [".SH EXAMPLES", code_of(first("code", section(using, "## `judge history`: whether a history is legal"))),
+              ".SH SEE ALSO", f"{bold('judge')}(1), {bold('vacation')}(1), {bold('kv_judge')}(1)"]
     return "\n".join(lines) + "\n"
 
 
@@ -254,7 +258,7 @@ def keys_page(text, rules, version, day):
              ".SH OPTIONS", *[tagged(bold(flag), marked(said)) for flag, said in options],
              ".SH EXIT STATUS", table_of(first("table", keys, "the history is not legal")),
              ".SH EXAMPLES", code_of(first("code", keys)),
-             ".SH SEE ALSO", f"{bold('vacation')}(1), {bold('vacation-history')}(5)"]
+             ".SH SEE ALSO", f"{bold('judge')}(1), {bold('vacation-history')}(5)"]
     return "\n".join(lines) + "\n"
 
 
@@ -269,14 +273,14 @@ def flags_of(options):
     return takes, plain_ones
 
 
-def completions(whole, commands):
-    """Completions for bash: subcommands, and the options of each."""
+def completions(program, whole, commands):
+    """Completions for bash: subcommands of a program, and the options of each."""
     names = [name for name, _ in whole.commands]
     takes = sorted({word for command in commands.values() for word in flags_of(command.options)[0]})
     cases = [("", [*names, *sum(flags_of(whole.options), [])])]
     cases += [(name, sum(flags_of(command.options), [])) for name, command in commands.items()]
     cases += [("help", [name for name in names if name != "help"])]
-    lines = ["# Completions of vacation(1) for bash, made from its help.", "_vacation() {",
+    lines = [f"# Completions of {program}(1) for bash, made from its help.", f"_{program}() {{",
              '    local words="" command=""',
              '    [ "$COMP_CWORD" = 1 ] || command="${COMP_WORDS[1]}"', "    COMPREPLY=()",
              '    case "${COMP_WORDS[COMP_CWORD - 1]}" in', f"        {' | '.join(takes)}) return ;;", "    esac",
@@ -286,5 +290,5 @@ def completions(whole, commands):
         lines.append(f'        {pattern}) words="{" ".join(words)}" ;;')
     lines += ["    esac",
               '    mapfile -t COMPREPLY < <(compgen -W "$words" -- "${COMP_WORDS[COMP_CWORD]}")', "}",
-              "complete -F _vacation vacation"]
+              f"complete -F _{program} {program}"]
     return "\n".join(lines) + "\n"

@@ -1,8 +1,8 @@
 #!/usr/bin/env python3
-"""Packs a program that is built already, with its pages, its manual, the benchmark with its peers, the
+"""Packs the programs, which are built already, with their pages, their manual, the benchmark with its peers, the
 interface and the templates, as a tarball and as a package for Debian, with their sums. Its arguments are the
-program, the folder that gets them, and, to be packed beside the program, the judge of keys and values. The same
-commit and the same programs give the same bytes: owners, modes, times and orders are fixed."""
+programs vacation and judge, the folder that gets them, and, to be packed beside them, the judge of keys and values.
+The same commit and the same programs give the same bytes: owners, modes, times and orders are fixed."""
 
 import gzip
 import hashlib
@@ -27,8 +27,11 @@ LICENSES = ("LICENSE-MIT", "LICENSE-APACHE")
 # What is packed as it stands in the tree, beside pages and licenses: folders, files and pictures.
 AS_IT_STANDS = ("benchmark", "explain", "tools/explaining", "convert", "tools/converting", "include", "share",
                 "docs/*.svg", "docs/anomaly", "docs/histories", "docs/measured.csv", "docs/clauses.txt")
-# The judge of keys and values, beside the program.
+# The judge of keys and values, beside the programs.
 KEYS = "kv_judge"
+# The headings of the page on how to use the programs whose examples the manual pages show.
+EXAMPLES = {"vacation": ["## `run`: commands and their replies"],
+            "judge": ["## `judge history`: whether a history is legal"]}
 # Stands behind the words of a link to a page that is not packed.
 ELSEWHERE = " [in the source tree]"
 # Debian has a package named vacation already, which answers letters.
@@ -47,11 +50,12 @@ def page(name):
 
 
 class Release:
-    """What is packed: the programs by their names, what the first one says of itself, and the commit."""
+    """What is packed: the programs by their names, what they say of themselves, and the commit."""
 
-    def __init__(self, program, keys=None):
+    def __init__(self, program, judge, keys=None):
         self.program = Path(program).resolve()
-        self.programs = {"vacation": self.program.read_bytes()}
+        files = {"vacation": self.program, "judge": Path(judge).resolve()}
+        self.programs = {name: file.read_bytes() for name, file in files.items()}
         if keys:
             self.programs[KEYS] = Path(keys).read_bytes()
         first, *kit = said(self.program, "--version").splitlines()
@@ -61,9 +65,10 @@ class Release:
         self.seconds = int(seconds)
         self.is_changed = said(*git, "status", "--porcelain") != ""
         self.keys_help = said(Path(keys).resolve(), "--help") if keys else None
-        self.whole = manual.read_help(said(self.program, "--help"))
-        self.commands = {name: manual.read_help(said(self.program, name, "--help"))
-                         for name, _ in self.whole.commands if name != "help"}
+        self.wholes = {name: manual.read_help(said(file, "--help")) for name, file in files.items()}
+        self.commands = {name: {command: manual.read_help(said(files[name], command, "--help"))
+                                for command, _ in whole.commands if command != "help"}
+                         for name, whole in self.wholes.items()}
 
     def library(self):
         """The version of the C library that the programs ask for."""
@@ -102,7 +107,7 @@ def proved(release):
 
 README = """# {title}
 
-A travel reservation system on a software transactional memory, and judges of histories and attempts of other runtimes. The programs are proved. Type the commands of the pages in this folder.
+A travel reservation system on a software transactional memory (`vacation`), and a judge of histories and attempts of other runtimes (`judge`). The programs are proved. Type the commands of the pages in this folder.
 
 | You are .. | Begin with .. |
 |---|---|
@@ -110,7 +115,7 @@ A travel reservation system on a software transactional memory, and judges of hi
 | a database engineer | [Databases under faults](docs/DATABASES.md) |
 | somebody with logs of a key-value store or a map | [Judge etcd, Redis and lock-free maps](docs/JUDGE.md#judge-etcd-redis-and-lock-free-maps) |
 | a reader of the theorem | [Theorem](docs/THEOREM.md), [Promises](docs/PROMISES.md), [every clause](docs/clauses.txt), `docs/ledger` |
-| a user of the program | [Using the program](docs/USING.md), [Rules](docs/RULES.md), `man -l share/man/man1/vacation.1` |
+| a user of the programs | [Using the programs](docs/USING.md), [Rules](docs/RULES.md), `man -l share/man/man1/judge.1` |
 | somebody who doubts the numbers | [Measured](docs/MEASURED.md), [The benchmark](benchmark/README.md) |
 
 **What is proved** is said in [PROVED](PROVED), with the commit, the toolchain and the assumptions. It is said of {programs} alone. Not proved: the scripts `explain` and `convert`, and all of `benchmark`, `include` and `share`; they are tested.
@@ -158,12 +163,11 @@ def texts(release):
     """What goes beside the program, by its place in the tarball: bytes and mode."""
     day = time.strftime("%Y-%m-%d", time.gmtime(release.seconds))
     using, rules = page("docs/USING.md"), page("docs/RULES.md")
-    share = {
-        "man/man1/vacation.1": manual.program_page(
-            release.whole, release.commands, using, release.title, day),
-        "man/man5/vacation-history.5": manual.history_page(rules, using, release.title, day),
-        "bash-completion/completions/vacation": manual.completions(release.whole, release.commands),
-    }
+    share = {"man/man5/vacation-history.5": manual.history_page(rules, using, release.title, day)}
+    for name, whole in release.wholes.items():
+        share[f"man/man1/{name}.1"] = manual.program_page(
+            name, whole, release.commands[name], using, release.title, day, EXAMPLES[name])
+        share[f"bash-completion/completions/{name}"] = manual.completions(name, whole, release.commands[name])
     if release.keys_help:
         share["man/man1/kv_judge.1"] = manual.keys_page(release.keys_help, rules, release.title, day)
     made = {f"share/{name}": text.encode() for name, text in share.items()}
@@ -228,9 +232,9 @@ Conflicts: vacation
 Section: devel
 Priority: optional
 Description: {about}, and a proved judge of histories
- A program that is proved from the atomic step up to the bytes of a reply. Its
- subcommand judge says whether the calls that another runtime or database has
- logged are right: whether their order is a linearization of them.
+ A program that is proved from the atomic step up to the bytes of a reply. The
+ program judge says whether the calls that another runtime or database has
+ logged are right: whether they have a linearization.
 """
 
 
@@ -255,7 +259,7 @@ def debian(release, files, place):
     size = sum(-(-len(data) // 1024) for data, _ in files.values())
     sums = "".join(f"{hashlib.md5(data).hexdigest()}  {name}\n" for name, (data, _) in sorted(files.items()))
     control = CONTROL.format(name=DEBIAN_NAME, version=release.version, size=size, library=release.library(),
-                             about=release.whole.about)
+                             about=release.wholes["vacation"].about)
     files = {**files, "DEBIAN/control": (control.encode(), TEXT_MODE), "DEBIAN/md5sums": (sums.encode(), TEXT_MODE)}
     with tempfile.TemporaryDirectory() as temporary:
         tree = Path(temporary) / "tree"
@@ -273,8 +277,8 @@ def debian(release, files, place):
 
 
 def main():
-    program, folder, *keys = sys.argv[1:]
-    folder, release = Path(folder), Release(program, *keys)
+    program, judge, folder, *keys = sys.argv[1:]
+    folder, release = Path(folder), Release(program, judge, *keys)
     files = texts(release)
     name = f"vacation-{release.version}-x86_64-linux"
     folder.mkdir(parents=True, exist_ok=True)

@@ -18,7 +18,7 @@ OBJECTS = ("stm_object", "vac_manager", "ex_bank", "ex_ring")
 CALLS = (("vac_manager/src/calls.rt", "call"), ("stm_object/src/caller.rt", "Caller::call"),
          ("stm_object/src/caller.rt", "Caller::run"))
 CORE = ("WasDecided",)
-TESTS = re.compile(r"^test_|_day$|^vacation$")
+TESTS = re.compile(r"^test_|_day$|^vacation$|^judge$")
 DEFINED = re.compile(r"^(?:pub (?:record|data|inductive)|(?:abbrev|record|data) pub|pub abbrev) ([^\s:({]+)", re.M)
 
 
@@ -101,8 +101,8 @@ def below(root, program):
 
 
 def program_sizes(root, functions):
-    """Returns the sizes of the libraries on which the program `vacation` stands, taken together."""
-    total, names = Sizes(), below(root, "vacation")
+    """Returns the sizes of the libraries on which the programs `vacation` and `judge` stand, taken together."""
+    total, names = Sizes(), below(root, "vacation") | below(root, "judge")
     for folder in libraries(root):
         if folder.name in names:
             total.add(sizes_of(folder, functions))
@@ -124,7 +124,7 @@ def page(root, functions):
         total.add(sizes)
         out.append(row(folder.name, sizes))
     shared = shared_names(folders)
-    out += [row("all", total), row("below `vacation`", program_sizes(root, functions)), "",
+    out += [row("all", total), row("below the programs", program_sizes(root, functions)), "",
             f"Clauses a function: {total.clauses / max(1, total.functions):.2f}. Contract lines a body line: "
             f"{total.contracts / max(1, total.bodies):.2f}. Names of definitions in two libraries or more: "
             f"{len(shared)}."]

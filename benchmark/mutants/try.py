@@ -15,6 +15,9 @@ import tempfile
 from concurrent.futures import ThreadPoolExecutor
 from pathlib import Path
 
+sys.path.insert(0, str(Path(__file__).resolve().parent.parent))
+from programs import judge_beside
+
 HERE = Path(__file__).resolve().parent
 PEERS = HERE.parent / "peers"
 ROOT = HERE.parent.parent
@@ -75,18 +78,15 @@ class Trial:
     """Runs of one kind: whether histories or attempts are judged, and with pauses or without."""
 
     def __init__(self, program, load, mode, jitters, arguments):
-        self.program, self.mode, self.jitters = program, mode, jitters
+        self.judges, self.mode, self.jitters = judge_beside(program), mode, jitters
         self.blocks, self.runs, self.patience = load.get("blocks", BLOCKS), arguments.runs, arguments.patience
-        told = subprocess.run([program, "judge", "--help"], capture_output=True, text=True, check=True)
-        self.knows_work = "--tasks" in told.stdout
 
     def judge(self, lines, tasks):
         """What is wrong with the lines, or nothing, and how many were looked at until then."""
         if self.mode == "--attempts":
-            words = [self.program, "opaque", "--words", str(16 + 8 * self.blocks)]
+            words = [self.judges, "attempts", "--words", str(16 + 8 * self.blocks)]
         else:
-            words = [self.program, "judge", "--blocks", str(self.blocks)]
-            words += ["--tasks", tasks] if self.knows_work else []
+            words = [self.judges, "history", "--given-order", "--blocks", str(self.blocks), "--tasks", tasks]
         done = subprocess.run(words, input=lines, capture_output=True, text=True)
         verdict = done.stdout.split("\n")[0].split(" ")
         count = lines.count("\n")
@@ -198,8 +198,7 @@ def main():
         with tempfile.TemporaryDirectory() as name:
             print_page(arguments, mutants, Path(name))
         return
-    has_opaque = subprocess.run([arguments.program, "opaque", "--help"], capture_output=True).returncode == 0
-    modes = ["--history"] + (["--attempts"] if has_opaque and not arguments.histories else [])
+    modes = ["--history"] + ([] if arguments.histories else ["--attempts"])
     trials = [Trial(arguments.program, arguments.work, mode, jitters, arguments)
               for mode in modes for jitters in (False, True)]
     heads = [("history" if trial.mode == "--history" else "attempts") + (", jitter" if trial.jitters else "")

@@ -8,11 +8,11 @@ from collections.abc import Callable, Sequence
 from dataclasses import dataclass
 
 from . import smoke
-from .runner import NOT_FOUND, PROGRAM, ROOT, Missing, python, require, run, say
+from .runner import NOT_FOUND, PROGRAMS, ROOT, Missing, python, require, run, say
 
 ABOUT = """usage: ./dev COMMAND [ARGUMENT]..
 
-Work on this tree. './vacation' proves, builds and runs the program, './test' runs the gate; the rest is here.
+Work on this tree. './vacation' and './judge' prove, build and run the programs, './test' runs the gate; the rest is here.
 """
 FOOT = """
 './dev COMMAND --help' tells the arguments of most commands.
@@ -35,13 +35,15 @@ def script(path: str) -> Callable[[Sequence[str]], int]:
 
 
 def try_program(words: Sequence[str]) -> int:
-    """Runs the program as it stands, with nothing proved. `rt try` compiles it with checks that stop it where a
+    """Runs a program as it stands, with nothing proved. `rt try` compiles it with checks that stop it where a
     proof would have failed; the output comes when the program has ended, one MiB at most, within ten minutes."""
     if not words or words[0] in ("-h", "--help"):
-        say("usage: ./dev try WORD..: the words of vacation's command line, as in ./dev try run < script")
+        say("usage: ./dev try [vacation|judge] WORD..: the words of a command line of vacation, or of judge, as in"
+            " ./dev try run < script, or ./dev try judge history < log")
         return 0 if words else 2
-    say("nothing is proved; the program is compiled first, which takes a minute")
-    return run(["rt", "try", "--seconds", "600", "--", *words], ROOT / "crates/vacation")
+    program, words = (words[0], words[1:]) if words[0] in PROGRAMS else (PROGRAMS[0], words)
+    say(f"nothing is proved; {program} is compiled first, which takes a minute")
+    return run(["rt", "try", "--seconds", "600", "--", *words], ROOT / "crates" / program)
 
 
 def prove(words: Sequence[str]) -> int:
@@ -61,30 +63,32 @@ def mutate(words: Sequence[str]) -> int:
 
 def package(words: Sequence[str]) -> int:
     """Packs the programs for those without the toolchain, after a build if no program is named."""
-    if len(words) not in (0, 2, 3) or {"-h", "--help"} & set(words):
-        say("usage: ./dev package [PROGRAM FOLDER [KV_JUDGE]]")
+    if len(words) not in (0, 3, 4) or {"-h", "--help"} & set(words):
+        say("usage: ./dev package [VACATION JUDGE FOLDER [KV_JUDGE]]")
         return 2
     if not words:
-        if status := run([ROOT / "vacation", "--version"]):
-            return status
+        for program in PROGRAMS:
+            if status := run([ROOT / program, "--version"]):
+                return status
         keys = ROOT / "crates/kv_judge"
         if status := run([sys.executable, ROOT / "tools/build_program.py", str(os.cpu_count() or 1)], keys):
             return status
-        words = [str(PROGRAM), str(ROOT / "out/release"), str(keys / "out/kv_judge")]
+        words = [*(str(ROOT / f"crates/{program}/out/{program}") for program in PROGRAMS), str(ROOT / "out/release"),
+                 str(keys / "out/kv_judge")]
     return python("tools/package.py", words)
 
 
 COMMANDS = {
-    "try": Command("WORD..", "run the program with nothing proved: './dev try run < script'", try_program, ("rt",)),
+    "try": Command("WORD..", "run a program with nothing proved: './dev try run < script'", try_program, ("rt",)),
     "prove": Command("CRATE [FLAG]..", "prove one crate; the flags are those of 'rt check'", prove, ("rt",)),
-    "smoke": Command("", "build the program unproved and run the quick tests on it, within ten minutes",
+    "smoke": Command("", "build the programs unproved and run the quick tests on it, within ten minutes",
                      smoke.main, ("rt",)),
     "mutate": Command("[CRATE|MUTANT]..", "try mutants of tests/plants: those named, --gate or --all; --check compares texts",
                       mutate),
     "unproved": Command("FILE [PROGRAM]", "build vacation, or another program, with nothing proved, as this file",
                         script("tools/unproved.py"), ("rt",)),
     "bench": Command("[OPTION]..", "measure the program beside its peers", script("benchmark/measure.py")),
-    "package": Command("[PROGRAM FOLDER [KV_JUDGE]]", "pack a tarball and a Debian package", package, ("git",)),
+    "package": Command("[VACATION JUDGE FOLDER [KV_JUDGE]]", "pack a tarball and a Debian package", package, ("git",)),
     "new-law": Command("NAME", "write a crate with a transactional object of its own", script("tools/new_law")),
     "new-object": Command("NAME", "write a crate with a sequential object, and a judge of its histories",
                           script("tools/new_object")),

@@ -10,7 +10,7 @@ from collections.abc import Sequence
 from pathlib import Path
 
 ROOT = Path(__file__).resolve().parent.parent.parent
-PROGRAM = ROOT / "crates/vacation/out/vacation"
+PROGRAMS = ("vacation", "judge")
 NOT_FOUND = 127
 TOOLS = {
     "rt": "the Rattle toolchain is missing",

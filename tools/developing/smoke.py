@@ -1,4 +1,4 @@
-"""The quick tests: builds the program with nothing proved, and runs the scripts of tests/ that end soon."""
+"""The quick tests: builds the programs with nothing proved, and runs the scripts of tests/ that end soon."""
 
 from __future__ import annotations
 
@@ -7,7 +7,7 @@ import time
 from collections.abc import Sequence
 from pathlib import Path
 
-from .runner import ROOT, python, run, say
+from .runner import PROGRAMS, ROOT, python, run, say
 
 # The scripts of tests/ that together end within some five minutes; the others are for the gate.
 QUICK = ("rows.sh", "examples.py", "pages.py", "library_page.py", "load.py", "tasks.py", "check.py", "judge.py",
@@ -16,16 +16,17 @@ QUICK = ("rows.sh", "examples.py", "pages.py", "library_page.py", "load.py", "ta
 
 
 def main(words: Sequence[str]) -> int:
-    """Returns 0 if the program can be built and all quick tests pass."""
+    """Returns 0 if the programs can be built and all quick tests pass."""
     if words:
         say("usage: ./dev smoke")
         return 2
     began, failed = time.monotonic(), []
     with tempfile.TemporaryDirectory() as folder:
-        program = Path(folder) / "vacation"
-        if python("tools/unproved.py", [program]):
-            say("the program does not compile")
-            return 1
+        for name in PROGRAMS:
+            if python("tools/unproved.py", [Path(folder) / name, name]):
+                say(f"the program {name} does not compile")
+                return 1
+        program = Path(folder) / PROGRAMS[0]
         for name in QUICK:
             if run([ROOT / "tests" / name, program]):
                 failed.append(name)

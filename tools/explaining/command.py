@@ -22,9 +22,9 @@ LEGAL, ILLEGAL, USAGE, UNDECIDED = 0, 1, 2, 3
 
 DESCRIPTION = """Explains why a history is illegal: which calls contradict each other, what the anomaly is called,
 which isolation levels allow it, and the smallest run that shows it. Each claim that calls are illegal is confirmed by
-'vacation judge --any-order'."""
+'judge history'."""
 STATUSES = """Status: 0 if the history is legal, 1 if it is illegal or damaged, 3 if the judge did not decide and no
-contradiction was found, 2 if the command line was refused."""
+contradiction was found, 2 if the command line was refused, 4 after a fault of a stream or of memory."""
 
 
 def _count(word: str) -> int:
@@ -46,7 +46,7 @@ def _options(words: list[str]) -> argparse.Namespace:
                         help="number of blocks, as for the judge (default: 1024)")
     parser.add_argument("--program", metavar="P", help="the program that judges (default: that of the last build)")
     parser.add_argument("--verdict", type=Path, metavar="FILE",
-                        help="what 'vacation judge --any-order' wrote about the log (default: it is asked)")
+                        help="what 'judge history' wrote about the log (default: it is asked)")
     parser.add_argument("--all", action="store_true", help="look for all contradictions of a large log")
     return parser.parse_args(words)
 

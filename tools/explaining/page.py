@@ -174,7 +174,7 @@ class Article:
         return ("<h3>The smallest run that shows it</h3><p>Client 0 makes the state before; then come the calls, with"
                 " what matters of them. Times count from the first call.</p>"
                 f'<div class="row"><button data-copy="{name}">Copy</button></div><pre id="{name}" tabindex="0">'
-                + escape("\n".join(self.finding.logs()[0])) + "</pre><p><code>vacation judge --any-order --blocks"
+                + escape("\n".join(self.finding.logs()[0])) + "</pre><p><code>judge history --blocks"
                 f" {self.finding.few.blocks or MOST_BLOCKS} &lt; FILE</code> says: <code>"
                 f"{escape(self.finding.few_verdicts[0])}</code></p>")
 

@@ -31,31 +31,31 @@ class Program:
 
     @staticmethod
     def find(root: Path, named: str | None) -> Program:
-        """The program of the command line, of the variable VACATION, of the last build of a clone, beside the script,
-        or on the PATH. In a clone `vacation` beside the script is no program but builds one."""
-        named = named or os.environ.get("VACATION")
+        """The program of the command line, of the variable JUDGE, of the last build of a clone, beside the script,
+        or on the PATH. In a clone `judge` beside the script is no program but builds one."""
+        named = named or os.environ.get("JUDGE")
         if named:
             places = [Path(named)]
         elif (root / "crates").is_dir():
-            places = [root / "crates/vacation/out/vacation"]
+            places = [root / "crates/judge/out/judge"]
         else:
-            places = [root / "vacation", Path(shutil.which("vacation") or root / "vacation")]
+            places = [root / "judge", Path(shutil.which("judge") or root / "judge")]
         for place in places:
             if place.is_file() and os.access(place, os.X_OK):
                 return Program(place.resolve())
-        raise NoProgram(f"there is no program at {places[0]}: start ./vacation once, or name one with --program")
+        raise NoProgram(f"there is no program at {places[0]}: start ./judge once, or name one with --program")
 
     def judge_file(self, path: Path, blocks: int) -> tuple[int, list[str]]:
         """The status and the lines of the verdict on a log, in any order."""
-        return self._judge_file(path, blocks, "--any-order", "--steps", str(LOG_STEPS))
+        return self._judge_file(path, blocks, "--steps", str(LOG_STEPS))
 
     def judge_lines(self, path: Path, blocks: int) -> str:
         """The first line of the verdict on a log in the order of its lines."""
-        return self._judge_file(path, blocks)[1][0]
+        return self._judge_file(path, blocks, "--given-order")[1][0]
 
     def _judge_file(self, path: Path, blocks: int, *options: str) -> tuple[int, list[str]]:
         with open(path, "rb") as log:
-            done = subprocess.run([self.path, "judge", "--blocks", str(blocks), *options], stdin=log,
+            done = subprocess.run([self.path, "history", "--blocks", str(blocks), *options], stdin=log,
                                   capture_output=True, text=True, check=False)
         if not done.stdout:
             raise NoProgram(f"{self.path} gave no verdict (status {done.returncode}): {done.stderr.strip()}")
@@ -77,7 +77,7 @@ class Program:
 
     def judge(self, lines: Iterable[str], blocks: int | None = None) -> str:
         """The first line of the verdict on a short history."""
-        words = [self.path, "judge", "--any-order", "--blocks", str(blocks or MOST_BLOCKS), "--steps", str(PART_STEPS)]
+        words = [self.path, "history", "--blocks", str(blocks or MOST_BLOCKS), "--steps", str(PART_STEPS)]
         done = subprocess.run(words, input="".join(f"{line}\n" for line in lines), capture_output=True, text=True,
                               check=False)
         return done.stdout.partition("\n")[0] or f"status {done.returncode}"

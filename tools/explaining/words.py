@@ -250,7 +250,7 @@ def proved_parts(finding: Finding, verdict: str) -> list[str]:
     """The parts of the log that the proved program calls illegal besides."""
     part = len(finding.found.part.calls)
     is_told = finding.proved_calls is None or not is_decided(verdict)
-    own = [] if is_told else [f"the part of the log that 'vacation part' writes ({finding.proved_calls:,} calls)"]
+    own = [] if is_told else [f"the part of the log that 'judge part' writes ({finding.proved_calls:,} calls)"]
     return [*own, f"the part of the log that the script takes ({part:,} call{'s'[:part != 1]})"]
 
 

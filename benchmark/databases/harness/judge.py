@@ -38,15 +38,16 @@ class Judgement:
 
 @dataclass(frozen=True)
 class Programs:
-    """The proved programs: of the reservations, whose tasks the first one also draws, and of keys."""
+    """The proved programs: that which draws the tasks, the judge of reservations, and that of keys."""
     vacation: str
+    judge_program: str
     kv_judge: str
 
     def judge(self, workload: Workload) -> list[str]:
         """Returns the command that judges a history on its standard input."""
         if workload is Workload.KEYS:
             return [self.kv_judge]
-        return [self.vacation, "judge", "--any-order", "--blocks", str(NO_BOUND)]
+        return [self.judge_program, "history", "--blocks", str(NO_BOUND)]
 
 
 def judge(words: list[str], history: Path, say: Callable[[str], None], patience: float = PATIENCE) -> Judgement:

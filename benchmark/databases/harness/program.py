@@ -88,7 +88,9 @@ def read_options(arguments: list[str]) -> argparse.Namespace:
                         default=Workload.RESERVATIONS.value,
                         help="what clients do: tasks of reservations, get, put and compare-and-set of single keys,"
                         " or a run of either (default: reservations)")
-    parser.add_argument("--program", default=str(_own_program()), help="the proved program (default: %(default)s)")
+    parser.add_argument("--program", default=str(_own_program()), help="the proved program that draws the tasks (default: %(default)s)")
+    parser.add_argument("--judge", default=str(_judge()),
+                        help="the proved judge of the workload 'reservations' (default: %(default)s)")
     parser.add_argument("--kv-judge", default=str(_judge_of_keys()),
                         help="the proved judge of the workload 'keys' (default: %(default)s)")
     options = parser.parse_args(arguments)
@@ -102,6 +104,11 @@ def read_options(arguments: list[str]) -> argparse.Namespace:
 def _own_program() -> Path:
     """Returns the program of this checkout, or of this unpacked tarball."""
     return next((file for file in (ROOT / "vacation", ROOT / "bin/vacation") if file.exists()), ROOT / "vacation")
+
+
+def _judge() -> Path:
+    """Returns the judge of reservations of this checkout, or of this unpacked tarball."""
+    return next((file for file in (ROOT / "judge", ROOT / "bin/judge") if file.exists()), ROOT / "judge")
 
 
 def _judge_of_keys() -> Path:
@@ -250,7 +257,7 @@ def _do(worker: Worker, plan: Plan, options: argparse.Namespace, progress: Progr
 
 
 def _programs(options: argparse.Namespace) -> Programs:
-    return Programs(options.program, options.kv_judge)
+    return Programs(options.program, options.judge, options.kv_judge)
 
 
 def _folder_beside(folder: Path) -> Path:

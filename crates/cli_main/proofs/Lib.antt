@@ -7,7 +7,3 @@ mod InTurn
 mod Lines
 pub mod LoadEnds
 pub mod Ledgers
-pub mod Judgement
-pub mod PartNames
-pub mod Reported
-pub mod Verdicts

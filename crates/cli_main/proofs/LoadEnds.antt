@@ -23,7 +23,8 @@ use Rattle.vac_lines.specs.declared.stream_fault.StreamFault.{StreamFault}
 use Rattle.vac_lines.specs.declared.stream_fault.StreamFault.TheVariants as stream
 use Rattle.std.specs.Io.KnownBytes.{Appends}
 use Rattle.vac_lines.specs.Writing.{AppendsPrefix}
-use Rattle.cli_main.specs.Ending.{load_fault_line, fault_line, CanStopWriting, EndsDone, EndsWithStatus}
+use Rattle.cli_common.specs.Ending.{fault_line}
+use Rattle.cli_main.specs.Ending.{load_fault_line, CanStopWriting, EndsDone, EndsWithStatus}
 use Rattle.cli_options.specs.declared.asked.LoadOutput.{LoadOutput}
 use Rattle.load_run.specs.declared.summary.LoadSummary.{LoadSummary}
 use Rattle.load_run.specs.Summary.{load_text}

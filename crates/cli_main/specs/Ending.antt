@@ -1,22 +1,13 @@
 -- The last line and the status of the program after a fault.
-use Rattle.std.specs.Prelude.{◌≡◌, ◌⊎◌, ℕ, Bool, true, false, Option, Result, Ok, Err, List, [], codes}
+use Rattle.std.specs.Prelude.{◌≡◌, ◌⊎◌, ℕ, Bool, true, false, Option, Result, Ok, Err, List, codes}
 use Rattle.vac_lines.specs.Script.{as_line}
 use Rattle.vac_lines.specs.Writing.{AppendsPrefix}
 use Rattle.vac_lines.specs.declared.stream_fault.StreamFault.{StreamFault}
 use Rattle.vac_lines.specs.declared.stream_fault.StreamFault.TheVariants as stream
 use Rattle.load_run.specs.declared.load.LoadFault.{LoadFault}
 use Rattle.load_run.specs.declared.load.LoadFault.TheVariants as load
-
--- the last line after a fault; there is none if the output failed
-abbrev pub fault_line : StreamFault → List ℕ
-fault_line stream.Read = as_line (codes "fault read")
-fault_line stream.Write = []
-fault_line stream.Memory = as_line (codes "fault memory")
-fault_line stream.Bound = as_line (codes "fault bound")
-
--- the last line if a file could not be opened
-abbrev pub unopened_line : List ℕ
-unopened_line = as_line (codes "fault open")
+use Rattle.cli_common.specs.Ending.{EndsBy, fault_line}
+use Rattle.cli_main.specs.declared.status.TheConstants.{FAULT}
 
 -- the last line of a load if an attempt is too long to be written
 abbrev pub long_attempt_line : List ℕ
@@ -30,10 +21,8 @@ load_fault_line load.Spawn = as_line (codes "fault spawn")
 load_fault_line (load.Opening fault) = as_line (codes "fault opening")
 
 -- the status is 0 and the work was done, or the status is 1 and the work was stopped
--- Not said: that the line of a fault is written, or written completely; that the line names the
--- fault that was met; that the output is flushed. Tests use streams that fail.
 abbrev pub EndsWithStatus : ℕ → Type 0 → Type 0 → Type 0
-EndsWithStatus status done stopped = ((status ≡ 0) × done) ⊎ ((status ≡ 1) × stopped)
+EndsWithStatus status done stopped = EndsBy FAULT status done stopped
 
 -- the end of the program after its work: the status is 0 if the work was done; after a fault the
 -- status is 1, and a prefix of the line that names the fault was written
@@ -43,13 +32,12 @@ EndsDone (Ok t) status held holds = (status ≡ 0) × (holds ≡ held)
 EndsDone (Err fault) status held holds =
     (status ≡ 1) × AppendsPrefix held holds (fault_line fault)
 
--- the end of the program after a judgement: the status is 0 if the verdict is positive, and 1
--- otherwise; after a fault the status is 1, and a prefix of the line that names the fault was
--- written
-abbrev pub EndsJudged : Result Bool StreamFault → ℕ → Option (List ℕ) → Option (List ℕ) → Type 0
-EndsJudged (Ok true) status held holds = (status ≡ 0) × (holds ≡ held)
-EndsJudged (Ok false) status held holds = (status ≡ 1) × (holds ≡ held)
-EndsJudged (Err fault) status held holds =
+-- the end of the program after an audit: the status is 0 if no flaw was found, and 1 otherwise;
+-- after a fault the status is 1, and a prefix of the line that names the fault was written
+abbrev pub EndsChecked : Result Bool StreamFault → ℕ → Option (List ℕ) → Option (List ℕ) → Type 0
+EndsChecked (Ok true) status held holds = (status ≡ 0) × (holds ≡ held)
+EndsChecked (Ok false) status held holds = (status ≡ 1) × (holds ≡ held)
+EndsChecked (Err fault) status held holds =
     (status ≡ 1) × AppendsPrefix held holds (fault_line fault)
 
 -- the fault is one that can stop a command that only writes

@@ -1,10 +1,4 @@
 pub mod Program
-pub mod Reporting
 pub mod Load
 pub mod Ending
 pub mod Statistics
-pub mod Judging
-pub mod Ordering
-pub mod Asking
-pub mod Parting
-pub mod Laws

@@ -44,7 +44,8 @@ use Rattle.cli_options.specs.declared.asked.LoadOutput.{LoadOutput}
 use Rattle.load_run.specs.declared.summary.LoadSummary.{LoadSummary}
 use Rattle.load_run.specs.Summary.{load_text}
 use Rattle.cli_main.specs.Statistics.{summary_text, task_count, WritesProgress}
-use Rattle.cli_main.specs.Ending.{EndsWithStatus, NamedAfterWriting, fault_line, load_fault_line}
+use Rattle.cli_main.specs.Ending.{EndsWithStatus, NamedAfterWriting, load_fault_line}
+use Rattle.cli_common.specs.Ending.{fault_line}
 use Rattle.cli_main.specs.Ending.{long_attempt_line}
 
 -- the load of these settings ran to its end with this summary, and exactly its two lines were

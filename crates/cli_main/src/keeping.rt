@@ -13,9 +13,10 @@ ghost use Rattle.cli_main.specs.Load.{StoppedAttempts};
 ghost use Rattle.load_run.specs.Keeping.{contents};
 
 use crate::load::{LoadRequest, tell_summary};
-use crate::status::{DONE, end_by, end_by_settings, end_done, end_load_by, end_long_attempt};
+use crate::status::{end_by, end_by_settings, end_done, end_load_by, end_long_attempt};
 use crate::telling::run_with_progress;
 use crate::timer::LoadTimer;
+use cli_common::DONE;
 use load_record::{
     AttemptRecorder, CallRecorder, ElapsedClock, StampClock, write_attempts, write_history,
 };

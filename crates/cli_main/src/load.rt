@@ -7,12 +7,13 @@ ghost use Rattle.cli_main.specs.Load.{EndsLoad, WroteLoad, WroteLoadInPart};
 ghost use Rattle.cli_main.specs.Program.{LoadsAs};
 ghost use Rattle.std.specs.Io.KnownBytes.{Appends};
 ghost use Rattle.vac_lines.specs.declared.stream_fault.StreamFault.TheVariants.{Memory};
-ghost use Rattle.cli_main.specs.Ending.{fault_line};
+ghost use Rattle.cli_common.specs.Ending.{fault_line};
 ghost use Rattle.vac_lines.specs.Writing.{AppendsPrefix};
 
-use crate::status::{end_by, end_by_settings, end_load_by, refuse, write_done, write_text};
+use crate::status::{FAULT, end_by, end_by_settings, end_load_by};
 use crate::telling::run_with_progress;
 use crate::timer::LoadTimer;
+use cli_common::{refuse, write_done, write_text};
 use cli_options::LoadOutput;
 use load_run::{LoadFault, LoadReport, LoadSummary, no_recorders};
 use load_tasks::Settings;
@@ -103,7 +104,7 @@ fn write_load<W: Write>(alloc: Global, report: &LoadReport, output: &mut W) -> u
     if print(report, &mut text).is_err() {
         return end_by(StreamFault::Memory, output);
     }
-    write_done(text.as_slice(), output)
+    write_done(text.as_slice(), FAULT, output)
 }
 
 /// The statistics of a load as a line, if they are asked for.

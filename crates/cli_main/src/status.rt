@@ -1,75 +1,20 @@
-//! The statuses of the program, and texts that may be lost: its last line after a fault, reports,
-//! and progress.
+//! The statuses of the program, and its last line after a fault.
 
-ghost use Rattle.std.specs.Prelude.{◌≡◌, ◌≤◌, ◌↔◌, IfSome};
-ghost use Rattle.std.specs.Io.KnownBytes.{Appends};
+ghost use Rattle.std.specs.Prelude.{◌≡◌, ◌≤◌, ◌↔◌};
 ghost use Rattle.vac_lines.specs.Writing.{AppendsPrefix};
-ghost use Rattle.cli_main.specs.Ending.{fault_line, unopened_line, long_attempt_line};
-ghost use Rattle.cli_main.specs.Ending.{load_fault_line};
-ghost use Rattle.cli_main.specs.Ending.{EndsDone, EndsJudged, EndsWithStatus};
+ghost use Rattle.cli_common.specs.Ending.{fault_line};
+ghost use Rattle.cli_main.specs.Ending.{long_attempt_line, load_fault_line};
+ghost use Rattle.cli_main.specs.Ending.{EndsDone, EndsChecked};
 
+use cli_common::{DONE, REFUSED, write_fault, write_last, write_text};
 use load_run::LoadFault;
 use load_tasks::{BLOCKS_OF_ITEM, Settings};
 use std::alloc::Global;
-use std::fmt::Display;
 use std::io::Write;
-use vac_lines::{StreamFault, print, write_and_flush};
+use vac_lines::StreamFault;
 
-/// Status of a program that did its work, gave a positive verdict, or showed its help or version.
-pub(crate) const DONE: u8 = 0;
-
-/// Status of a program that met a fault or gave a negative verdict.
+/// Status of a program that met a fault, or whose audit found a flaw.
 pub(crate) const FAULT: u8 = 1;
-
-/// Status of a program whose command line was refused.
-pub(crate) const REFUSED: u8 = 2;
-
-/// Status of a program that did not decide within its steps.
-pub(crate) const UNDECIDED: u8 = 3;
-
-/// Writes a text to one of the program's outputs. If the write fails, the rest of the text is lost.
-#[tactic(auto, using(crate::proofs::Ending::either_way))]
-fn write_last<W: Write>(line: &[u8], output: &mut W)
-    ensures { AppendsPrefix (W.contents output.old) (W.contents output.new) line.now }
-{
-    let _ = write_and_flush(output, line);
-}
-
-/// Writes the text of a value to one of the program's outputs. If memory is refused, or the write
-/// fails, only this text is lost.
-///
-/// Not said: the text of a value whose type states no output.
-#[tactic(auto, using(crate::proofs::Reported::none_of, crate::proofs::Reported::shown))]
-pub(crate) fn write_text<D: Display + Drop, W: Write>(alloc: Global, value: D, output: &mut W)
-    ensures { IfSome (D.output value)
-        (AppendsPrefix (W.contents output.old) (W.contents output.new)) }
-{
-    let mut text = Vec::new(alloc);
-    if print(value, &mut text).is_ok() {
-        write_last(text.as_slice(), output);
-    }
-}
-
-/// Writes a text, and returns the status: 0 if the text was written.
-pub(crate) fn write_done<W: Write>(text: &[u8], output: &mut W) -> u8
-    ensures { EndsWithStatus result
-        (Appends (W.contents output.old) (W.contents output.new) text.now)
-        (AppendsPrefix (W.contents output.old) (W.contents output.new) text.now) }
-{
-    match write_and_flush(output, text) {
-        Ok(()) => DONE,
-        Err(_) => FAULT,
-    }
-}
-
-/// Writes to `errors` why a command line is refused, and returns the status. A failed write changes
-/// nothing.
-pub(crate) fn refuse<E: Write>(why: &[u8], errors: &mut E) -> u8
-    ensures { result ≡ 2 }
-{
-    let _ = write_and_flush(errors, why);
-    REFUSED
-}
 
 /// Writes this line as the last line of a program that met a fault, and returns the status.
 fn end_with<W: Write>(line: &[u8], output: &mut W) -> u8
@@ -82,18 +27,13 @@ fn end_with<W: Write>(line: &[u8], output: &mut W) -> u8
 
 /// Writes the last line of a program that met a fault, and returns the status. If the output
 /// failed, there is no such line. A failed write of the line changes nothing.
-#[tactic(auto, using(crate::proofs::Ending::nothing))]
 pub(crate) fn end_by<W: Write>(fault: StreamFault, output: &mut W) -> u8
     ensures status { result ≡ 1 }
     ensures line { AppendsPrefix (W.contents output.old) (W.contents output.new)
         (fault_line fault) }
 {
-    match fault {
-        StreamFault::Read => end_with(b"fault read\n", output),
-        StreamFault::Write => FAULT,
-        StreamFault::Memory => end_with(b"fault memory\n", output),
-        StreamFault::Bound => end_with(b"fault bound\n", output),
-    }
+    write_fault(fault, output);
+    FAULT
 }
 
 /// Writes the last line after a fault, and returns the status: 0 if the work was done.
@@ -106,24 +46,15 @@ pub(crate) fn end_done<W: Write>(done: Result<(), StreamFault>, output: &mut W) 
     }
 }
 
-/// Writes the last line after a fault, and returns the status: 0 if the verdict is positive.
-pub(crate) fn end_judged<W: Write>(judged: Result<bool, StreamFault>, output: &mut W) -> u8
-    ensures { EndsJudged judged result (W.contents output.old) (W.contents output.new) }
+/// Writes the last line after a fault, and returns the status: 0 if no flaw was found.
+pub(crate) fn end_checked<W: Write>(checked: Result<bool, StreamFault>, output: &mut W) -> u8
+    ensures { EndsChecked checked result (W.contents output.old) (W.contents output.new) }
 {
-    match judged {
+    match checked {
         Ok(true) => DONE,
         Ok(false) => FAULT,
         Err(fault) => end_by(fault, output),
     }
-}
-
-/// Writes the last line of a program that could not open a file, and returns the status.
-pub(crate) fn end_unopened<W: Write>(output: &mut W) -> u8
-    ensures status { result ≡ 1 }
-    ensures line { AppendsPrefix (W.contents output.old) (W.contents output.new)
-        unopened_line }
-{
-    end_with(b"fault open\n", output)
 }
 
 /// Writes the last line of a load with an attempt that is too long to be written, and returns the

@@ -6,8 +6,8 @@ ghost use Rattle.vac_lines.specs.Writing.{AppendsPrefix};
 ghost use Rattle.cli_main.specs.Load.{HasRun, RunsKept, ReportsProgress};
 ghost use Rattle.cli_main.specs.Statistics.{WritesProgress, progress_line, task_count};
 
-use crate::status::write_text;
 use crate::timer::LoadTimer;
+use cli_common::{has_passed, pause, write_text};
 use cli_options::LoadOutput;
 use load_run::{AttemptStatistics, Load, LoadFault, LoadReport, Recorders};
 use load_tasks::{PcgDraws, Settings};
@@ -17,12 +17,9 @@ use std::sync::Wait;
 use std::sync::atomic::{AtomicBool, AtomicU64, Ordering};
 use std::thread;
 use std::thread::{Parker, Threads};
-use std::time::{Clock, Duration, Instant};
+use std::time::{Clock, Instant};
 use stm_attempt::{Gate, Point};
 use vac_manager::Recorder;
-
-/// Least time between two lines, in milliseconds.
-const PAUSE_MILLIS: u64 = 500;
 
 /// The gate of a client that counts completed tasks and passes each event on to another gate.
 #[derive(Clone, Copy, Drop)]
@@ -98,22 +95,6 @@ impl Progress {
                 last = Instant::now(rt).ok();
             }
         }
-    }
-}
-
-/// Returns the least time between two lines.
-fn pause() -> Duration {
-    Duration::from_millis(PAUSE_MILLIS)
-}
-
-/// Returns whether the pause has passed since the last line; false if the time cannot be read.
-pub(crate) fn has_passed<T: Clock>(rt: &T, last: Option<Instant>) -> bool {
-    let Some(last) = last else {
-        return false;
-    };
-    match last.elapsed(rt) {
-        Ok(since) => since >= pause(),
-        Err(_) => false,
     }
 }
 

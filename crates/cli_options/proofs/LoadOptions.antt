@@ -6,21 +6,24 @@ use Rattle.clap.specs.Walk.{Row, Rule, Text, arg_by_id}
 use Rattle.vac_model.specs.declared.limits.TheConstants.{MOST_BLOCKS, MOST_PARTS, MOST_TRIES}
 use Rattle.load_tasks.specs.declared.settings.TheConstants.{MOST_CLIENTS, MOST_TASKS, MOST_ITEMS, MOST_ROUNDS}
 use Rattle.load_tasks.specs.declared.settings.TheConstants.{PERCENT}
-use Rattle.cli_options.specs.declared.asked.TheConstants.{MOST_NUMBER}
-use Rattle.cli_options.specs.CommandLine.{vacation, blocks_option, clients_option, tasks_option, rounds_option}
-use Rattle.cli_options.specs.CommandLine.{tries_option, items_option, asks_option, reads_option, user_option}
-use Rattle.cli_options.specs.CommandLine.{seed_option, flag, IsFlag, HasDrawing, HasLoad, Names}
-use Rattle.cli_options.proofs.Walks.{AllFit}
-use Rattle.cli_options.proofs.Given.{IsGiven, IsEntered}
-use Rattle.cli_options.proofs.OptionTexts.{number_given, seed_given, flag_given}
-use Rattle.cli_options.proofs.Subcommands.{fit, shape_at, option_given, differ, IsAlone, enters}
+use Rattle.cli_common.specs.declared.values.TheConstants.{MOST_NUMBER}
+use Rattle.cli_common.specs.Options.{blocks_option, flag}
+use Rattle.cli_common.specs.Values.{IsFlag}
+use Rattle.cli_options.specs.CommandLine.{vacation, clients_option, tasks_option, rounds_option, tries_option}
+use Rattle.cli_options.specs.CommandLine.{items_option, asks_option, reads_option, user_option, seed_option}
+use Rattle.cli_options.specs.CommandLine.{HasDrawing, HasLoad, Names}
+use Rattle.cli_common.proofs.Walks.{AllFit}
+use Rattle.cli_common.proofs.Given.{IsGiven, IsEntered}
+use Rattle.cli_common.proofs.OptionTexts.{number_given, seed_given, flag_given}
+use Rattle.cli_common.proofs.Shapes.{fit, option_given, differ}
+use Rattle.cli_options.proofs.Subcommands.{shape_at, IsAlone, enters}
 
 -- `load` and `tasks`, as clap builds them
 loading : Shape
-loading = shape_at 7
+loading = shape_at 3
 
 drawing : Shape
-drawing = shape_at 8
+drawing = shape_at 4
 
 loading_fit : AllFit loading.rules
 unfolding shape_at loading
@@ -141,22 +144,10 @@ load_alone = (
     (
       λ e. absurd (differ _ _ refl e),
       (
-        λ e. absurd (differ _ _ refl e),
+        λ e. refl,
         (
           λ e. absurd (differ _ _ refl e),
-          (
-            λ e. absurd (differ _ _ refl e),
-            (
-              λ e. absurd (differ _ _ refl e),
-              (
-                λ e. refl,
-                (
-                  λ e. absurd (differ _ _ refl e),
-                  (λ e. absurd (differ _ _ refl e), tt),
-                ),
-              ),
-            ),
-          ),
+          (λ e. absurd (differ _ _ refl e), tt),
         ),
       ),
     ),
@@ -174,17 +165,8 @@ tasks_alone = (
       (
         λ e. absurd (differ _ _ refl e),
         (
-          λ e. absurd (differ _ _ refl e),
-          (
-            λ e. absurd (differ _ _ refl e),
-            (
-              λ e. absurd (differ _ _ refl e),
-              (
-                λ e. absurd (differ _ _ refl e),
-                (λ e. refl, (λ e. absurd (differ _ _ refl e), tt)),
-              ),
-            ),
-          ),
+          λ e. refl,
+          (λ e. absurd (differ _ _ refl e), tt),
         ),
       ),
     ),

@@ -4,11 +4,14 @@ use Rattle.clap.specs.Words.{fault_of}
 use Rattle.clap.specs.Simple.{Shape, filled}
 use Rattle.clap.specs.Walk.{Row, Text}
 use Rattle.vac_model.specs.declared.limits.TheConstants.{MOST_BLOCKS}
-use Rattle.cli_options.specs.CommandLine.{vacation, blocks_option, GivesIn, Names}
-use Rattle.cli_options.proofs.Walks.{AllFit}
-use Rattle.cli_options.proofs.Given.{IsGiven, IsEntered, level_gives}
-use Rattle.cli_options.proofs.OptionTexts.{number_given}
-use Rattle.cli_options.proofs.Subcommands.{fit, shape_at, differ, IsAlone, enters}
+use Rattle.cli_common.specs.Options.{blocks_option}
+use Rattle.cli_common.specs.Values.{GivesIn}
+use Rattle.cli_options.specs.CommandLine.{vacation, Names}
+use Rattle.cli_common.proofs.Walks.{AllFit}
+use Rattle.cli_common.proofs.Given.{IsGiven, IsEntered, level_gives}
+use Rattle.cli_common.proofs.OptionTexts.{number_given}
+use Rattle.cli_common.proofs.Shapes.{fit, differ}
+use Rattle.cli_options.proofs.Subcommands.{shape_at, IsAlone, enters}
 
 -- a subcommand with the option of the blocks alone
 with_blocks : Text → Shape
@@ -37,19 +40,7 @@ run_alone = (
         λ e. absurd (differ _ _ refl e),
         (
           λ e. absurd (differ _ _ refl e),
-          (
-            λ e. absurd (differ _ _ refl e),
-            (
-              λ e. absurd (differ _ _ refl e),
-              (
-                λ e. absurd (differ _ _ refl e),
-                (
-                  λ e. absurd (differ _ _ refl e),
-                  (λ e. absurd (differ _ _ refl e), tt),
-                ),
-              ),
-            ),
-          ),
+          (λ e. absurd (differ _ _ refl e), tt),
         ),
       ),
     ),
@@ -68,19 +59,7 @@ dump_alone = (
         λ e. absurd (differ _ _ refl e),
         (
           λ e. absurd (differ _ _ refl e),
-          (
-            λ e. absurd (differ _ _ refl e),
-            (
-              λ e. absurd (differ _ _ refl e),
-              (
-                λ e. absurd (differ _ _ refl e),
-                (
-                  λ e. absurd (differ _ _ refl e),
-                  (λ e. absurd (differ _ _ refl e), tt),
-                ),
-              ),
-            ),
-          ),
+          (λ e. absurd (differ _ _ refl e), tt),
         ),
       ),
     ),

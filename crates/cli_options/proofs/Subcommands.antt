@@ -1,48 +1,21 @@
 -- The subcommands as clap builds them, and the one that the words enter.
-use Rattle.std.proofs.Common.{◌≡◌, ◌<◌, ◌||◌, ◌∙◌, ℕ, true, false, List, [], length, Some, None, ◌⊎◌, sym, subst}
-use Rattle.std.proofs.Common.{nat_lt}
-use Rattle.std.specs.Str.{bytes_eq}
-use Rattle.std.proofs.lemmas.Slice.Eq.{bytes_eq-Decides}
+use Rattle.std.proofs.Common.{◌≡◌, ℕ, List, []}
+use Rattle.std.specs.List.{slice_index_or}
 use Rattle.clap.specs.Words.{fault_of}
 use Rattle.clap.specs.Simple.{Shape, built, new_shape}
-use Rattle.clap.specs.Walk.{Row, Rule, Text, action_of, arg_by_id, one_of}
-use Rattle.std.specs.List.{slice_index_or}
-use Rattle.clap.specs.Facts.{unwrap_or_range}
-use Rattle.clap.specs.Values.{is_request}
+use Rattle.clap.specs.Walk.{Row, Text}
 use Rattle.cli_options.specs.CommandLine.{vacation, Names}
-use Rattle.cli_options.proofs.FoundRows.{Each, IsFit, is_counted}
-use Rattle.cli_options.proofs.Walks.{AllFit}
-use Rattle.cli_options.proofs.Given.{IsGiven, IsEntered, level_gives, level_may_give, subcommand_entered}
-
-pub fit : {c : List Rule} {a : Rule} → arg_by_id c a.id ≡ Some a → is_counted (action_of a) ≡ false
-    → (is_request (action_of a) || (nat_lt 0 (unwrap_or_range a.range).start_inclusive || nat_lt 0 (length a.missing)))
-    ≡ true → IsFit c a
-fit own plain valued = record { own = own; plain = plain; valued = valued }
+use Rattle.cli_common.proofs.Given.{IsEntered}
+use Rattle.cli_common.proofs.Shapes as shapes
 
 unfoldable pub shape_at : ℕ → Shape
 shape_at k = slice_index_or (built vacation).subs k (new_shape [])
 
--- the value of an option with a default, in a subcommand that was entered
-pub option_given : (s : Shape) (rows : List Row) → AllFit s.rules → IsEntered s rows → (a : Rule) →
-    arg_by_id s.rules a.id ≡ Some a → 0 < length a.defaults → IsGiven a rows
-option_given s rows all e a own some = subst (IsGiven a) e.rows_are (level_gives s e.words a all e.passes own some)
-
--- the value of an option without a default, if it has one, in a subcommand that was entered
-pub option_may_be_given : (s : Shape) (rows : List Row) → AllFit s.rules → IsEntered s rows → (a : Rule) →
-    arg_by_id s.rules a.id ≡ Some a → (one_of a.id rows ≡ None) ⊎ IsGiven a rows
-option_may_be_given s rows all e a own =
-    subst (λ rs. (one_of a.id rs ≡ None) ⊎ IsGiven a rs) e.rows_are (level_may_give s e.words a all e.passes own)
-
-pub differ : (a b : Text) → bytes_eq a b ≡ false → a ≡ b → ⊥
-differ a b e same = let bad : false ≡ true = sym e ∙ (bytes_eq-Decides a b).1 same in cc
-
 -- each subcommand of this name is this one
 abbrev pub IsAlone : Text → Shape → Type 0
-IsAlone name target = Each (λ s. s.name ≡ name → s ≡ target) (built vacation).subs
+IsAlone name target = shapes.IsAlone vacation name target
 
 -- the words enter the subcommand that they name
 pub enters : (name : Text) (target : Shape) (words : List Text) (rows : List Row) → IsAlone name target →
     fault_of vacation words ≡ [] → Names words name rows → IsEntered target rows
-enters name target words rows alone fault names =
-    let found = subcommand_entered (λ s. s.name ≡ name → s ≡ target) vacation words name rows alone fault names in
-    subst (λ (s : Shape). IsEntered s rows) (found.1 found.2) found.3
+enters name target words rows alone fault names = shapes.enters vacation name target words rows alone fault names

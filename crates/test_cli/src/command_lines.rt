@@ -3,7 +3,7 @@
 use crate::example::SCRIPT;
 use crate::failing::{NEVER, Pieces, Sink, Stop};
 use crate::same::same;
-use cli_main::{Open, Watched, run_words};
+use cli_judge::{Open, Watched};
 use std::alloc::{AllocError, Global};
 use std::io::{ErrorKind, Read, Write};
 use std::process::Abort;
@@ -24,7 +24,7 @@ fn words_of(alloc: Global, words: &[&str]) -> Result<Vec<String>, AllocError> {
 /// a judge about its log is no error message.
 pub(crate) type Ended = (u8, bool);
 
-/// Runs a command line.
+/// Runs a command line, whose first word names the program.
 pub(crate) fn run_line<
     T: Threads + Wait + Clock + Sync + Abort + AllocGlobal,
     F: Open,
@@ -32,16 +32,22 @@ pub(crate) fn run_line<
     W: Write,
 >(rt: &T, files: &F, words: &[&str], input: &mut R, output: &mut W) -> Ended {
     let alloc = rt.alloc();
+    let judges = words.first().is_some_and(|program| *program == "judge");
     let words = words_of(alloc, words).expect(rt, "there is memory");
     let mut errors = Vec::new(alloc);
-    let status = run_words(
-        rt,
-        files,
-        words.as_slice(),
-        &mut Watched::new(alloc, input),
-        output,
-        &mut errors,
-    );
+    let status = if judges {
+        let mut watched = Watched::new(alloc, input);
+        cli_judge::run_words(
+            rt,
+            files,
+            words.as_slice(),
+            &mut watched,
+            output,
+            &mut errors,
+        )
+    } else {
+        cli_main::run_words(rt, words.as_slice(), input, output, &mut errors)
+    };
     let warns = errors.as_slice().starts_with(b"warning: ");
     (status, errors.is_empty() || warns)
 }

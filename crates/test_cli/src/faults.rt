@@ -4,7 +4,7 @@ use crate::command_lines::{Ended, run_line};
 use crate::example::{DUMP, SCRIPT};
 use crate::failing::{NEVER, Pieces, Sink, Stop};
 use crate::same::same;
-use cli_main::Open;
+use cli_judge::Open;
 use std::io::ErrorKind;
 use std::process::Abort;
 use std::sync::Wait;
@@ -19,6 +19,8 @@ struct Row {
     output: &'static [u8],
     /// The first seven bytes of the output.
     first: &'static [u8],
+    /// The status after a fault.
+    fault: u8,
 }
 
 /// A history of one call.
@@ -30,17 +32,19 @@ const CALLS: &[u8] = b"1 0 5 newcust 3 -> true\n2 1 6 newcust 4 -> true\n1 7 9 l
 /// Command lines that write nothing before they have read their input.
 const ROWS: [Row; 4] = [
     Row {
-        words: &["vacation", "judge"],
+        words: &["judge", "history", "--given-order"],
         input: HISTORY,
         output: b"legal calls=1 clients=1\ncars=0 flights=0 rooms=0 customers=1 bookings=0 \
             used=0 free=0 total=0 billed=0\n",
         first: b"legal c",
+        fault: 4,
     },
     Row {
         words: &["vacation", "dump", "--blocks", "1"],
         input: SCRIPT,
         output: DUMP,
         first: b"0\n16\n0\n",
+        fault: 1,
     },
     Row {
         words: &["vacation", "check"],
@@ -48,6 +52,7 @@ const ROWS: [Row; 4] = [
         output: b"cars=1 flights=0 rooms=0 customers=0 bookings=0 \
             used=0 free=100 total=100 billed=0\n",
         first: b"cars=1 ",
+        fault: 1,
     },
     Row {
         words: &["vacation", "part", "--customer", "3"],
@@ -119,8 +124,8 @@ fn fail_each_read<T: Threads + Wait + Clock + Sync + Abort + AllocGlobal + Open>
 
 #[test]
 fn reads_that_fail(rt: HostRuntime) {
-    let wants = ((1, true), b"fault read\n".as_slice());
     for row in ROWS {
+        let wants = ((row.fault, true), b"fault read\n".as_slice());
         fail_each_read(&rt, &row, ErrorKind::Other, wants);
     }
 }
@@ -151,7 +156,7 @@ fn writes_that_fail_once(rt: HostRuntime) {
         let out = Sink::new(rt.alloc(), 7, 1, stop);
         let (status, out) = write_to(&rt, row.words, row.input, out);
         let found = (row.words, status, out.taken.as_slice());
-        same(&rt, &found, &(row.words, 1, row.first));
+        same(&rt, &found, &(row.words, row.fault, row.first));
     }
     for line in WRITING {
         let out = Sink::new(rt.alloc(), 7, 1, stop);
@@ -166,7 +171,7 @@ fn flushes_that_fail(rt: HostRuntime) {
         let out = Sink::without_flush(rt.alloc());
         let (status, out) = write_to(&rt, row.words, row.input, out);
         let found = (row.words, status, out.taken.as_slice());
-        same(&rt, &found, &(row.words, 1, row.output));
+        same(&rt, &found, &(row.words, row.fault, row.output));
     }
     for line in WRITING {
         let out = Sink::without_flush(rt.alloc());

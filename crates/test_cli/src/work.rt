@@ -3,7 +3,7 @@
 use crate::command_lines::{Ended, run_line};
 use crate::failing::{NEVER, Pieces, Sink, Stop};
 use crate::same::same;
-use cli_main::Open;
+use cli_judge::Open;
 use std::io;
 use std::io::{ErrorKind, Read, Write};
 use std::process::Abort;
@@ -45,7 +45,7 @@ fn judge<T: Threads + Wait + Clock + Sync + Abort + AllocGlobal, R: Read, W: Wri
     input: &mut R,
     output: &mut W,
 ) -> Ended {
-    let words = &["vacation", "judge", "--tasks", name];
+    let words = &["judge", "history", "--given-order", "--tasks", name];
     run_line(rt, files, words, input, output)
 }
 
@@ -77,7 +77,7 @@ fn files_that_fail(rt: HostRuntime) {
         let mut out = Vec::new(rt.alloc());
         let ended = judge(&rt, &files, name, &mut input, &mut out);
         let found = (ended, out.as_slice(), input.calls);
-        same(&rt, &found, &((1, true), output, reads));
+        same(&rt, &found, &((4, true), output, reads));
     }
 }
 
@@ -97,7 +97,7 @@ fn a_verdict_that_is_cut(rt: HostRuntime) {
     same(
         &rt,
         &(ended.0, out.taken.as_slice()),
-        &(1, b"legal c".as_slice()),
+        &(4, b"legal c".as_slice()),
     );
 }
 
@@ -110,6 +110,6 @@ fn a_history_that_fails(rt: HostRuntime) {
     same(
         &rt,
         &(ended.0, out.as_slice()),
-        &(1, b"fault read\n".as_slice()),
+        &(4, b"fault read\n".as_slice()),
     );
 }

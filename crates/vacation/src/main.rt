@@ -2,11 +2,10 @@
 //! commands from standard input, one a line, and writes a line for each to standard output;
 //! `vacation dump` writes the words of the memory that they leave, and `vacation check` audits such
 //! words. `vacation load` runs clients in threads, which call the system with tasks drawn at
-//! random, `vacation tasks` writes these tasks for other programs, and `vacation judge` says
-//! whether the calls that such a program logged are right.
+//! random, and `vacation tasks` writes these tasks for other programs.
 #![tactic(auto)]
 
-use cli_main::{Watched, refuse_words, run_words};
+use cli_main::{refuse_words, run_words};
 use std::io::ErrorKind;
 use std::process::ExitCode;
 use std::{env, io};
@@ -30,9 +29,8 @@ fn main(rt: HostRuntime) -> ExitCode {
     };
     let status = run_words(
         &rt,
-        &rt,
         words.as_slice(),
-        &mut Watched::new(rt.alloc(), rt.stdin()),
+        &mut rt.stdin(),
         &mut rt.stdout(),
         &mut rt.stderr(),
     );

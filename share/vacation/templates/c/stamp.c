@@ -5,7 +5,7 @@
  *     cc -O2 -pthread -I include share/vacation/templates/c/stamp.c share/vacation/templates/c/tl2.c \
  *         -L built -lvacation_body -Wl,-rpath,$PWD/built -o stamp
  *     ./vacation tasks --tasks 1000 --items 8 > work
- *     ./stamp < work > log && ./vacation judge --any-order --tasks work < log
+ *     ./stamp < work > log && ./judge history --tasks work < log
  *
  * (`&&`, because a run that hung or crashed can end as `legal`: vacation_tm.h.) A memory of your own
  * that comes with a tm.h: put its folder before `include`, and the calls that start it into `main`.

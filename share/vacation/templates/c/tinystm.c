@@ -4,7 +4,7 @@
  *         -L $TINYSTM/lib -lstm -o tinystm.so
  *     ./vacation tasks --tasks 1000 --items 8 > work
  *     built/peer ./tinystm.so --history --jitter 1 < work > log &&
- *         ./vacation judge --any-order --tasks work < log
+ *         ./judge history --tasks work < log
  *
  * (`benchmark/build built --interface` builds `peer`; `&&`, because a run that hung or crashed can end
  * as `legal`: vacation_tm.h.) The library must be built as position-independent code (-fPIC). It jumps out of an attempt by a

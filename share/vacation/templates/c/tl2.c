@@ -3,8 +3,8 @@
  *     benchmark/build built --interface
  *     cc -O2 -fPIC -shared -I include share/vacation/templates/c/tl2.c -o tl2.so
  *     ./vacation tasks --tasks 1000 --items 8 > work
- *     built/peer ./tl2.so --attempts --jitter 1 < work > attempts && ./vacation opaque < attempts
- *     built/peer ./tl2.so --history --jitter 1 < work > log && ./vacation judge --tasks work < log
+ *     built/peer ./tl2.so --attempts --jitter 1 < work > attempts && ./judge attempts < attempts
+ *     built/peer ./tl2.so --history --jitter 1 < work > log && ./judge history --given-order --tasks work < log
  *
  * (`&&`, because a run that hung or crashed can end as `legal`: vacation_tm.h.) A conflict jumps out of
  * the attempt, as TinySTM does; returning 1 from tm_read, tm_write or tm_commit would do, too. With

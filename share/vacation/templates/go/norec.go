@@ -3,8 +3,8 @@
 //	benchmark/build built --interface
 //	go build -buildmode=c-shared -o norec_go.so share/vacation/templates/go/norec.go
 //	./vacation tasks --tasks 1000 --items 8 > work
-//	built/peer ./norec_go.so --attempts --jitter 1 < work > attempts && ./vacation opaque < attempts
-//	built/peer ./norec_go.so --history --jitter 1 < work > log && ./vacation judge --tasks work < log
+//	built/peer ./norec_go.so --attempts --jitter 1 < work > attempts && ./judge attempts < attempts
+//	built/peer ./norec_go.so --history --jitter 1 < work > log && ./judge history --given-order --tasks work < log
 //
 // (`&&`, because a run that hung or crashed can end as `legal`: vacation_tm.h.) A call from C to Go
 // takes some hundred nanoseconds: enough to judge, not to measure. With MISTAKE=1 in the environment an

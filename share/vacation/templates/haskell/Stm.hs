@@ -4,7 +4,7 @@
 --     ghc -O1 -threaded -fno-omit-yields -outputdir out -o stm share/vacation/templates/haskell/Stm.hs \
 --         -optl-Wl,-rpath,$PWD built/libvacation_body.so
 --     ./vacation tasks --tasks 1000 --items 8 > work
---     ./stm +RTS -N2 -RTS < work > log && ./vacation judge --any-order --tasks work < log
+--     ./stm +RTS -N2 -RTS < work > log && ./judge history --tasks work < log
 --
 -- (`&&`, because a run that hung or crashed can end as `legal`.) Without -fno-omit-yields a doomed
 -- transaction that does not allocate is never stopped. Each line of the log is written as its call ends,

@@ -4,12 +4,12 @@
     benchmark/build built --interface
     ./vacation tasks --tasks 1000 --items 8 > work
     python3 share/vacation/templates/python/tl2.py built/libvacation_body.so < work > log &&
-        ./vacation judge --any-order --tasks work < log
+        ./judge history --tasks work < log
 
 (`&&`, because a run that hung or crashed can end as `legal`.) The clients run in a child process, and each
 line of the log is written as its call ends, so that a run which crashes or stands still leaves a log, too.
 Calls that were cut short stand at its end as pending calls: others may have seen their effects. With
---attempts it logs attempts in the order of their versions, for `vacation opaque`. With --mistake a commit
+--attempts it logs attempts in the order of their versions, for `judge attempts`. With --mistake a commit
 does not validate what was read: the judge shall find that.
 """
 

@@ -3,8 +3,8 @@
 //     benchmark/build built --interface
 //     rustc --edition 2021 -O --crate-type cdylib share/vacation/templates/rust/norec.rs -o norec.so
 //     ./vacation tasks --tasks 1000 --items 8 > work
-//     built/peer ./norec.so --attempts --jitter 1 < work > attempts && ./vacation opaque < attempts
-//     built/peer ./norec.so --history --jitter 1 < work > log && ./vacation judge --tasks work < log
+//     built/peer ./norec.so --attempts --jitter 1 < work > attempts && ./judge attempts < attempts
+//     built/peer ./norec.so --history --jitter 1 < work > log && ./judge history --given-order --tasks work < log
 //
 // (`&&`, because a run that hung or crashed can end as `legal`: vacation_tm.h.) With `--cfg mistake` an
 // attempt that finds the sequence changed does not compare what it has read: the judge shall find that.

@@ -11,5 +11,5 @@ pub returns-clause-fails : goal.returns-clause-fails
 returns-clause-fails c = c.in_ok-matches.ensures.fails
 
 pub returns-clause-asked : goal.returns-clause-asked
-returns-clause-asked c = c.in_ok-asked_of.ensures (map string_bytes c.args.words.now)
+returns-clause-asked c = c.asked_of.ensures (map string_bytes c.args.words.now)
     (record { taken = c.in_ok-matches.ensures.fails; found = c.in_ok-matches.ensures.found })

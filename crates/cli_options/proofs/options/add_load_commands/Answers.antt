@@ -1,5 +1,5 @@
 use Rattle.std.proofs.Common.{[], refl, Ok}
-use Rattle.cli_options.proofs.Making.{new_command, command_gets, no_command, command_more}
+use Rattle.cli_common.proofs.Making.{new_command, command_gets, no_command, command_more}
 use Rattle.cli_options.proofs.options.add_load_commands.Goals as goal
 
 pub returns : goal.returns

@@ -1,4 +1,4 @@
-use Rattle.cli_options.proofs.Making.{gets_both}
+use Rattle.cli_common.proofs.Making.{gets_both}
 use Rattle.cli_options.proofs.options.add_load_options.Goals as goal
 
 pub returns : goal.returns

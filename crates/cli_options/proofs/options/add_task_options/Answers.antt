@@ -1,5 +1,5 @@
 use Rattle.std.proofs.Common.{[]}
-use Rattle.cli_options.proofs.Making.{help_set, short_set, no_option, option_more}
+use Rattle.cli_common.proofs.Making.{help_set, short_set, no_option, option_more}
 use Rattle.cli_options.proofs.options.add_task_options.Goals as goal
 
 pub returns : goal.returns

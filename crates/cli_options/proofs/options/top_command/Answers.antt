@@ -1,4 +1,4 @@
-use Rattle.cli_options.proofs.Making.{top_made}
+use Rattle.cli_common.proofs.Making.{top_made}
 use Rattle.cli_options.proofs.options.top_command.Goals as goal
 
 pub returns : goal.returns

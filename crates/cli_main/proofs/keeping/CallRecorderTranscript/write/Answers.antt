@@ -1,7 +1,7 @@
 use Rattle.std.proofs.Common.{rules}
 use Rattle.cli_main.specs.Load.{WroteCalls, WroteCallsInPart}
 use Rattle.cli_main.proofs.LoadEnds.{wrote_calls, wrote_calls_in_part, ended_writing}
-use Rattle.cli_main.proofs.Ending.{on_ok, on_err}
+use Rattle.cli_common.proofs.LastLines.{on_ok, on_err}
 use Rattle.cli_main.proofs.keeping.CallRecorderTranscript.write.Goals as goal
 
 pub returns : goal.returns

@@ -1,0 +1,13 @@
+pub mod LastLines
+pub mod Reported
+pub mod Making
+pub mod FoundRows
+pub mod Walks
+pub mod Given
+pub mod Stops
+pub mod OptionTexts
+pub mod Shapes
+pub mod Naming
+pub mod Getters
+pub mod Sources
+pub mod AllValues

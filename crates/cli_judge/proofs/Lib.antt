@@ -1,0 +1,5 @@
+pub mod Ending
+pub mod Judgement
+pub mod Reported
+pub mod PartNames
+pub mod Verdicts

@@ -1,0 +1,17 @@
+use Rattle.std.proofs.Common.{◌∙◌, sym, inr}
+use Rattle.judge_options.proofs.asked.order_asked.Goals as goal
+
+pub search_of-requires-clause-level : goal.search_of-requires-clause-level
+search_of-requires-clause-level c = sym c.level_of.ensures ∙ c.in-Some.is
+
+pub returns-in-Some : goal.returns-in-Some
+returns-in-Some c = λ words names. (
+  _,
+  names,
+  c.blocks_of.ensures.given,
+  c.blocks_of.ensures.range,
+  c.search_of.ensures,
+)
+
+pub returns-in-None : goal.returns-in-None
+returns-in-None c = λ words names. (_, inr names, sym c.level_of.ensures ∙ c.in-None.is)
