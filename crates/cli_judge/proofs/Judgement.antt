@@ -440,7 +440,8 @@ refused_as files how status unread held is refused =
 -- the command line is not refused
 pub asked_as : (files : List ℕ → Option (List ℕ)) (how : JudgeSettings) (status : ℕ)
     (unread left held holds : Option (List ℕ)) → is_refused how ≡ false
-    → JudgesAs files how.given_order how.tasks how.search.level how.blocks how.search.steps status unread left held holds
+    → JudgesAs files how.given_order how.tasks how.search.level how.blocks how.search.steps status unread left held
+    holds
     → JudgesAsked files how status unread left held holds
 asked_as files how status unread left held holds is judged =
     subst (λ b. JudgesUnless b files how status unread left held holds) (sym is) judged
