@@ -8,7 +8,6 @@ use Rattle.stm_core.specs.Client.{Client, RecordLaw}
 use Rattle.stm_core.specs.Core.{Event, opened, left, IsFreeHanded}
 use Rattle.stm_core.specs.Event.{Action, renewing}
 use Rattle.stm_core.specs.Guards.{May, stripe_of}
-
 use Rattle.stm_region.specs.Shown.{RegionShown, region_of, no_table}
 use Rattle.stm_region.specs.Layout.{place, first_cell, InRange}
 use Rattle.stm_region.specs.Refused.{MayRenew}
@@ -161,7 +160,7 @@ module _ (fits : List ℕ → Type 0) (lawful : RecordLaw) where
       let r : RegionShown = region_of no_table (length o.image) o.last o.stripes o in
       let e = ends fits lawful r i v free may.2 m.table h at in
       let only = alone fits lawful r v (data_words m) (slice_index m.table.words 0) last e free may
-          h.fitting h.some in
+      h.fitting h.some in
       subst (λ ws. GoesFrom m h (renew i last) record {
         opened = record {
           image = ws;

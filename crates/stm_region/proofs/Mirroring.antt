@@ -199,7 +199,8 @@ mirrors_set vs ws m i v v' w w' at to s left = record {
       (λ p. m.are_gone j x p.1 z) (at_set ws (m.number i) j w' x e);
 }
 
-unfoldable pub mirrors_both : (vs ws : List Client) (m : Mirrors vs ws) (i j : ℕ) (v v' w w' x x' y y' : Client) → j ≢ i →
+unfoldable pub mirrors_both : (vs ws : List Client) (m : Mirrors vs ws) (i j : ℕ) (v v' w w' x x' y y' : Client) →
+    j ≢ i →
     get_elem? vs i ≡ some v → get_elem? ws (m.number i) ≡ some w → IsShadow v' w' →
     (w'.is_gathered ≡ true → w' ≡ gone) → get_elem? vs j ≡ some x → get_elem? ws (m.number j) ≡ some y →
     IsShadow x' y' → (y'.is_gathered ≡ true → y' ≡ gone)

@@ -386,8 +386,8 @@ module _ (fits : List ℕ → Type 0) (lawful : RecordLaw) (law : Keeping fits l
           after (unplaced r.renewal) lk e (slice_index s.words word) v,
           keeps,
           tt,
-          subst (λ w. IsCoreState fits lawful o (Rattle.atomic_table.specs.Table.stepped s w (f (slice_index s.words word))
-              id me.1 (after (unplaced r.renewal) lk e (slice_index s.words w) v) keeps)) (sym is)
+          subst (λ w. IsCoreState fits lawful o (Rattle.atomic_table.specs.Table.stepped s w
+              (f (slice_index s.words word)) id me.1 (after (unplaced r.renewal) lk e (slice_index s.words w) v) keeps)) (sym is)
               (kept_after fits lawful o s h id v at e range' may0 (f (slice_index s.words word)) does'),
           tells (slice_index s.words word) (rw there (told_of c (stepped (unplaced r.renewal) lk e id v c)
               (matches s h) m' z h.bounded h.fitting h.rule inv' id v e at' here right may'.1))

@@ -1,5 +1,5 @@
 -- The order of the records in the one list of a run keeps the real time of the run.
-use Rattle.std.proofs.Common.{◌≡◌, ◌⊎◌, ⊎_elim, ℕ, zero, suc, ◌+◌, ◌-◌, ◌≤◌, ◌<◌, true, false, cond, eqb, leb, List}
+use Rattle.std.proofs.Common.{◌≡◌, ⊎_elim, ℕ, zero, suc, ◌+◌, ◌-◌, ◌≤◌, ◌<◌, true, false, cond, eqb, leb, List}
 use Rattle.std.proofs.Common.{[], ◌∷◌, ◌++◌, length, length-append, map, refl, sym, ap, ◌∙◌, subst, arith}
 use Rattle.std.proofs.lemmas.Bool.Decides.{nat_tests}
 use mathlib.Core.Option.{some, some-injective, some-ne-none}
@@ -50,7 +50,8 @@ begins_least : (k : ℕ) (es fs : List Event) (n : ℕ) → length es ≤ n → 
     begins k es (length es) ≤ begins k (es ++ fs) n
 begins_least k [] fs n l h = omega arith
 begins_least k (x ∷ es) fs zero l h = absurd (omega arith)
-begins_least k (x ∷ es) fs (suc n) l h = (let q = begins_least k es fs n (omega arith) (omega arith) in omega (arith, q))
+begins_least k (x ∷ es) fs (suc n) l h =
+    (let q = begins_least k es fs n (omega arith) (omega arith) in omega (arith, q))
 
 begins_here : (k : ℕ) (es fs : List Event) → begins k (es ++ fs) (length es) ≡ begins k es (length es)
 begins_here k [] fs = refl
@@ -66,7 +67,8 @@ first_comes (z ∷ l) b zero zero x y e f h =
 first_comes (z ∷ l) b zero (suc j) x y e f h = omega arith
 first_comes (z ∷ l) b (suc i) zero x y e f h =
     let q : z ≡ y = some-injective z y f in
-    absurd (let p = b.0 x (i, e) in let o : z.point ≡ y.point = ap (λ (r : Record). r.point) q in omega (arith, p, o, h))
+    absurd (let p = b.0 x (i, e) in
+    let o : z.point ≡ y.point = ap (λ (r : Record). r.point) q in omega (arith, p, o, h))
 first_comes (z ∷ l) b (suc i) (suc j) x y e f h = (let q = first_comes l b.1 i j x y e f h in omega (arith, q))
 
 -- a begin of a client
@@ -80,7 +82,7 @@ is_begin k (renews j i) e = clash e refl
 -- where the number of begun attempts passes a number, that attempt begins
 crossing : (k a : ℕ) (es : List Event) (from more : ℕ) → begins k es from < a → a ≤ begins k es (from + more) →
     from + more ≤ length es → (place : ℕ) × (from ≤ place) × (place < from + more) × IsStepOf es k a place begin
-crossing k a es from zero l h s = 
+crossing k a es from zero l h s =
     absurd (let e : from + 0 ≡ from = omega arith in
     let h' = subst (λ n. a ≤ begins k es n) e h in omega (arith, l, h'))
 crossing k a es from (suc more) l h s =
@@ -100,7 +102,7 @@ crossing k a es from (suc more) l h s =
         at.1 ∙ ap some (is_begin k at.0 b),
         (let z : begins k es (suc (from + more)) ≡ begins k es (from + more) + 1 =
             subst (λ y. begins k es (suc (from + more)) ≡ begins k es (from + more) + cond y 1 0) b next in
-        omega (arith, z, less, h')),
+            omega (arith, z, less, h')),
       ),
     ))
     (λ b. absurd (let z : begins k es (suc (from + more)) ≡ begins k es (from + more) + 0 =
@@ -145,7 +147,8 @@ decides_too : (s : Stamp) (e : Action) (n : ℕ) (rs : List Record) (w : Client)
     decision (unplaced s.renewal) e n (unplaced_client rs w) ≡ r ∷ [] → Deciding s e n w r
 decides_too s (tick from tag writes) n rs w r = by_case (λ b.
     cond b (cond (decides_at_once (versioned (unplaced s.renewal) (from + 1) tag writes (unplaced_client rs w)))
-    (writer_record (unplaced s.renewal) (versioned (unplaced s.renewal) (from + 1) tag writes (unplaced_client rs w)).attempt
+    (writer_record (unplaced s.renewal)
+    (versioned (unplaced s.renewal) (from + 1) tag writes (unplaced_client rs w)).attempt
     ∷ []) []) [] ≡ r ∷ [] → (x : Record) × (cond b (cond (decides_at_once (versioned s (from + 1) tag writes w))
     (writer_record s (versioned s (from + 1) tag writes w).attempt ∷ []) []) [] ≡ x ∷ []) × (unplaced_record x ≡ r)
     × (x.client ≡ s.client) × (x.attempt ≡ w.attempt.number)) (eqb n from)
@@ -301,7 +304,8 @@ module _ {lawful : RecordLaw} {moments : ℕ → Moment} {moves : ℕ → Move} 
           q.4 ∙ sym (ap (λ (x : Client). x.attempt.number) w.2.0),
         )
 
-    calls : (m n i j : ℕ) (v w : Client) (r s : Record) → m < n → IsDecidingMove one m i v r → IsDecidingMove one n j w s →
+    calls : (m n i j : ℕ) (v w : Client) (r s : Record) → m < n → IsDecidingMove one m i v r →
+        IsDecidingMove one n j w s →
         begun_at one (client_at one n j) (suc m) < w.attempt.number →
         (x : Record) × (y : Record) × (unplaced_record x ≡ r) × (unplaced_record y ≡ s) × ComesBefore one (suc n) x y
     calls m n i j v w r s less d e later =

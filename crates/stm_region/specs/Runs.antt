@@ -1,5 +1,5 @@
--- Runs of a region: the states of its table one after the other, each reached from the one before by
--- one move of a client, and the one list of events of the whole run.
+-- Runs of a region: the states of its table one after the other, each reached from the one before
+-- by one move of a client, and the one list of events of the whole run.
 use Rattle.std.specs.Prelude.{◌≡◌, ◌≢◌, ℕ, suc, ◌+◌, ◌<◌, ◌≤◌, List, [], ◌∷◌, ◌++◌, length, drop, replicate, slice_index, slice_set}
 use mathlib.Core.Option.{some}
 use lib.ListN.{get_elem?}
@@ -157,8 +157,8 @@ pub record IsRun (fits : List ℕ → Type 0) (lawful : RecordLaw) (moments : �
   pub begins : Stands fits lawful (moments 0)
   pub goes : (n : ℕ) → Moves lawful (moments n) (moves n) (moments (suc n))
 
--- one list of events for a whole run: the list of each state is the list of the state before it with
--- the event of the move between the two at its end. The list of the first state is the given one
+-- one list of events for a whole run: the list of each state is the list of the state before it
+-- with the event of the move between the two at its end. The list of the first state is the given one
 pub record HasOneList (lawful : RecordLaw) (moments : ℕ → Moment) (moves : ℕ → Move)
     (first : Listing lawful (moments 0)) : Type 0 where
   pub lists : (n : ℕ) → Listing lawful (moments n)
