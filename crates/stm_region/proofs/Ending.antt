@@ -10,6 +10,7 @@ use Rattle.stm_core.specs.Client.{Client, all_aborted, RecordLaw}
 use Rattle.stm_core.specs.Core.{Core, opened, begun_on, IsFreeHanded}
 use Rattle.stm_core.specs.Event.{opener, renewing}
 use Rattle.stm_core.specs.History.{Serial, image_after, image_upto}
+use Rattle.stm_core.proofs.Conditions.{IsAlone}
 use Rattle.stm_core.proofs.Renewing.{opening_rules, begins_rules, past_before}
 use Rattle.stm_core.proofs.Whole.{closes, closes_read, all_grants, knows, own_sorted}
 use Rattle.stm_region.specs.Shown.{Opened, RegionShown, opened_with}
@@ -19,7 +20,6 @@ use Rattle.stm_region.specs.Layout.{padding, first_cell}
 use Rattle.stm_region.specs.Rule.{listed, IsCoreState}
 use Rattle.stm_region.specs.Closed.{Ends}
 use Rattle.stm_region.specs.Refused.{MayRenew}
-use Rattle.stm_region.specs.Traced.{IsTraced}
 use Rattle.stm_region.proofs.Tracing.{opening_traced, renewal_traced}
 
 zeros : (a b : ℕ) (ys : List ℕ) → replicate (a + b) 0 ++ ys ≡ replicate a 0 ++ (replicate b 0 ++ ys)
@@ -38,7 +38,7 @@ image_behind : (image : List ℕ) (stripes : ℕ) → drop (first_cell stripes)
 image_behind image stripes = drop_all (replicate (first_cell stripes) 0) image (first_cell stripes)
     (length-replicate (first_cell stripes) 0)
 
-laid_out : (image : List ℕ) (stripes : ℕ) → replicate (first_cell stripes) 0 ++ image ≡ 0 ∷
+pub laid_out : (image : List ℕ) (stripes : ℕ) → replicate (first_cell stripes) 0 ++ image ≡ 0 ∷
     (replicate (FIRST_LOCK - 1) 0 ++ (replicate stripes 0 ++ (replicate (padding stripes) 0 ++ image)))
 laid_out image stripes =
     let e : first_cell stripes ≡ suc (FIRST_LOCK - 1 + (stripes + padding stripes)) = omega arith in
@@ -110,7 +110,7 @@ module _ (fits : List ℕ → Type 0) (lawful : RecordLaw) where
       (opens image last stripes f top one))
 
 -- the data words, from their index on
-cells_behind : (gap pad : List ℕ) (c : Core) (s : ℕ) → length gap ≡ FIRST_LOCK - 1 → length c.locks ≡ s →
+pub cells_behind : (gap pad : List ℕ) (c : Core) (s : ℕ) → length gap ≡ FIRST_LOCK - 1 → length c.locks ≡ s →
     length pad ≡ padding s → drop (first_cell s) (listed gap pad c) ≡ c.cells
 cells_behind gap pad c s g l p =
     let e : first_cell s ≡ suc (length gap + (length c.locks + length pad)) = omega arith in
@@ -123,7 +123,7 @@ cells_behind gap pad c s g l p =
 
 module _ (fits : List ℕ → Type 0) (lawful : RecordLaw) (r : RegionShown) where
   -- a state that meets the invariant, in which the client is the only one out
-  ends : {S : Type 0} (id : ℕ) (v : Client) → IsFreeHanded v → v.grants ≡ 63 → (s : State S Client) →
+  unfoldable pub ends : {S : Type 0} (id : ℕ) (v : Client) → IsFreeHanded v → v.grants ≡ 63 → (s : State S Client) →
       IsCoreState fits lawful (opened_with r) s → get_elem? s.views id ≡ some v →
       Ends lawful r v (drop (first_cell r.stripes) s.words) (slice_index s.words 0)
   ends id v free all s h at =
@@ -174,52 +174,64 @@ module _ (fits : List ℕ → Type 0) (lawful : RecordLaw) (r : RegionShown) whe
       fits r.first
   fits_with key e id u ws xs f = subst (λ (k : Opened). fits k.first) e f.1.0.fitting
 
--- the words with which a region ended, opened anew, meet the invariant of the next renewal
-pub reopens : {S : Type 0} (fits : List ℕ → Type 0) (lawful : RecordLaw) (r : RegionShown) (v : Client) (words : List ℕ)
-    (version last : ℕ) → Ends lawful r v words version → IsFreeHanded v → MayRenew r.renewal last v.grants →
-    fits r.first → 0 < r.stripes
-    → IsCoreState {S = S} fits lawful record {
-      image = words;
-      last = last;
-      stripes = r.stripes;
-      first = r.first;
-      renewal = r.renewal + 1;
-      start =
-          renewing v;
-    } (opening (replicate (first_cell r.stripes) 0 ++ words) [] (renewing v))
-reopens {S} fits lawful r v words version last h free may f one = record {
-  core = begun_on r.first words (r.renewal + 1) last r.stripes (renewing v);
-  gap = replicate (FIRST_LOCK - 1) 0;
-  pad = replicate (padding r.stripes) 0;
-  words = laid_out words r.stripes;
-  views = refl;
-  before_locks = refl;
-  locks = length-replicate r.stripes 0;
-  before_cells = length-replicate (padding r.stripes) 0;
-  last = refl;
-  opening = refl;
-  first = refl;
-  renewal = refl;
-  rule = begins_rules lawful (stripe_of r.stripes) r.first words (r.renewal + 1) last r.stripes
-      (renewing v) (ap (λ l. record (renewing v) { aborted_before = l }) (sym (append-nil (all_aborted v))))
-      may.2 h.serial (sym h.newest) h.abides h.eras h.sorted h.aborted;
-  traced =
-      let alone = all_grants lawful (stripe_of r.stripes) h.core h.rule h.number v h.member free.0 may.2 in
-      subst (λ ws. IsTraced lawful record {
-        image = ws;
-        last = last;
-        stripes = r.stripes;
-        first = r.first;
-        renewal = r.renewal + 1;
-        start =
-            renewing v;
-      } (begun_on r.first ws (r.renewal + 1) last r.stripes (renewing v))) h.cells
-      (renewal_traced lawful (opened_with r) h.core h.traced h.number v h.member free alone last may.0.0 may.0.1 may.1
-      h.first h.renewal h.locks);
-  fitting = f;
-  bounded = may.0.1;
-  some = one;
-}
+-- the words with which a region ended, opened anew, meet the invariant of the next renewal, and the
+-- renewal is one more event of the list
+module _ (fits : List ℕ → Type 0) (lawful : RecordLaw) (r : RegionShown) (v : Client) (words : List ℕ)
+    (version last : ℕ) (h : Ends lawful r v words version) (free : IsFreeHanded v)
+    (may : MayRenew r.renewal last v.grants) (f : fits r.first) (one : 0 < r.stripes) where
+  pub alone : IsAlone h.core h.number
+  alone = all_grants lawful (stripe_of r.stripes) h.core h.rule h.number v h.member free.0 may.2
+
+  unfoldable pub reopens_cells : {S : Type 0} → IsCoreState {S = S} fits lawful record {
+    image = h.core.cells;
+    last = last;
+    stripes = r.stripes;
+    first = r.first;
+    renewal = r.renewal + 1;
+    start =
+        renewing v;
+  } (opening (replicate (first_cell r.stripes) 0 ++ h.core.cells) [] (renewing v))
+  reopens_cells {S} = record {
+    core = begun_on r.first h.core.cells (r.renewal + 1) last r.stripes (renewing v);
+    gap = replicate (FIRST_LOCK - 1) 0;
+    pad = replicate (padding r.stripes) 0;
+    words = laid_out h.core.cells r.stripes;
+    views = refl;
+    before_locks = refl;
+    locks = length-replicate r.stripes 0;
+    before_cells = length-replicate (padding r.stripes) 0;
+    last = refl;
+    opening = refl;
+    first = refl;
+    renewal = refl;
+    rule = begins_rules lawful (stripe_of r.stripes) r.first h.core.cells (r.renewal + 1) last r.stripes
+        (renewing v) (ap (λ l. record (renewing v) { aborted_before = l }) (sym (append-nil (all_aborted v))))
+        may.2 h.serial (sym h.newest ∙ sym h.cells) h.abides h.eras h.sorted h.aborted;
+    traced = renewal_traced lawful (opened_with r) h.core h.traced h.number v h.member free alone last may.0.0 may.0.1
+        may.1 h.first h.renewal h.locks;
+    fitting = f;
+    bounded = may.0.1;
+    some = one;
+  }
+
+  pub reopens : {S : Type 0} → IsCoreState {S = S} fits lawful record {
+    image = words;
+    last = last;
+    stripes = r.stripes;
+    first = r.first;
+    renewal = r.renewal + 1;
+    start =
+        renewing v;
+  } (opening (replicate (first_cell r.stripes) 0 ++ words) [] (renewing v))
+  reopens {S} = subst (λ ws. IsCoreState {S = S} fits lawful record {
+    image = ws;
+    last = last;
+    stripes = r.stripes;
+    first = r.first;
+    renewal = r.renewal + 1;
+    start =
+        renewing v;
+  } (opening (replicate (first_cell r.stripes) 0 ++ ws) [] (renewing v))) h.cells (reopens_cells {S = S})
 
 -- a table of these words meets the invariant of the next renewal
 pub renews_on : {S : Type 0} (fits : List ℕ → Type 0) (lawful : RecordLaw) (r : RegionShown) (v : Client)
@@ -253,4 +265,4 @@ renews_on {S} fits lawful r v words laid version last h free may f one e =
       start =
           renewing v;
     } (opening (replicate (first_cell r.stripes) 0 ++ words) [] (renewing v)))
-    (sym (image_behind words r.stripes)) (reopens fits lawful r v words version last h free may f one))
+    (sym (image_behind words r.stripes)) (reopens fits lawful r v words version last h free may f one {S = S}))

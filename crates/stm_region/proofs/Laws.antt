@@ -15,10 +15,10 @@ use Rattle.stm_core.proofs.Playing.{every_list_is_serializable}
 use Rattle.stm_core.proofs.Whole.{whole_serial, whole_lawful, whole_shared, own_sorted}
 use Rattle.stm_region.specs.Shown.{Opened, with_gathered}
 use Rattle.stm_core.specs.Guards.{stripe_of}
-use Rattle.stm_region.specs.Traced.{Mirrors}
 use Rattle.stm_region.specs.Rule.{IsCoreState, listed}
 use Rattle.stm_region.specs.Running.{IsListed}
-use Rattle.stm_region.proofs.Moves.{gathered_takes}
+use Rattle.stm_region.proofs.Mirroring.{mirrors_of}
+use Rattle.stm_region.proofs.Stepping.{gathered_takes}
 
 module _ (fits : List ℕ → Type 0) (lawful : RecordLaw) (o : Opened) (s : State (Unit {0}) Client)
     (h : IsCoreState fits lawful o s) where
@@ -50,7 +50,7 @@ module _ (fits : List ℕ → Type 0) (lawful : RecordLaw) (o : Opened) (s : Sta
   takes_all i j v w ne e f un un' = gathered_takes lawful (stripe_of o.stripes) h.core h.rule i j v w ne
       (subst (λ cs. get_elem? cs i ≡ some v) h.views e) (subst (λ cs. get_elem? cs j ≡ some w) h.views f) un un'
 
-  pub is_listed : IsListed lawful o s
+  unfoldable pub is_listed : IsListed lawful o s
   is_listed =
       let t = h.traced in
       let stands = every_list_is_serializable lawful o.first t.last o.stripes t.events t.core t.leads in record {
@@ -65,7 +65,7 @@ module _ (fits : List ℕ → Type 0) (lawful : RecordLaw) (o : Opened) (s : Sta
         before_locks = h.before_locks;
         locks = sym (ap (λ (c : Core). length c.locks) t.same) ∙ h.locks;
         before_cells = h.before_cells;
-        clients = subst (λ vs. Mirrors vs t.core.clients) (sym h.views) t.clients;
+        clients = mirrors_of h.core.clients s.views t.core.clients t.clients h.views;
         sorted = λ i v e. own_sorted lawful (stripe_of o.stripes) h.core h.rule i v
             (subst (λ cs. get_elem? cs i ≡ some v) h.views e);
         core_sorted = own_sorted lawful (stripe_of o.stripes) t.core stands.rule;

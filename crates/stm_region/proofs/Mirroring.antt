@@ -1,6 +1,6 @@
 -- An event has the same effect on a client in a region and on the same client in the list's core,
 -- apart from the fields that a region does not keep.
-use Rattle.std.proofs.Common.{◌≡◌, ◌≢◌, ℕ, zero, suc, ◌+◌, ◌-◌, ◌≤◌, ◌<◌, Bool, true, false, cond, eqb, ltb, ◌&&◌, inl}
+use Rattle.std.proofs.Common.{◌≡◌, ◌≢◌, ◌⊎◌, ℕ, zero, suc, ◌+◌, ◌-◌, ◌≤◌, ◌<◌, Bool, true, false, cond, eqb, ltb, ◌&&◌, inl}
 use Rattle.std.proofs.Common.{inr, ⊎_elim, List, [], ◌∷◌, ◌++◌, append-nil, length, length-set, length-append, map, set}
 use Rattle.std.proofs.Common.{get_or, refl, sym, ap, ◌∙◌, subst, arith}
 use mathlib.Core.Option.{some, some-injective, some-ne-none}
@@ -199,7 +199,8 @@ mirrors_set vs ws m i v v' w w' at to s left = record {
       (λ p. m.are_gone j x p.1 z) (at_set ws (m.number i) j w' x e);
 }
 
-pub mirrors_both : (vs ws : List Client) (m : Mirrors vs ws) (i j : ℕ) (v v' w w' x x' y y' : Client) → j ≢ i →
+unfoldable pub mirrors_both : (vs ws : List Client) (m : Mirrors vs ws) (i j : ℕ) (v v' w w' x x' y y' : Client) →
+    j ≢ i →
     get_elem? vs i ≡ some v → get_elem? ws (m.number i) ≡ some w → IsShadow v' w' →
     (w'.is_gathered ≡ true → w' ≡ gone) → get_elem? vs j ≡ some x → get_elem? ws (m.number j) ≡ some y →
     IsShadow x' y' → (y'.is_gathered ≡ true → y' ≡ gone)
@@ -211,55 +212,31 @@ mirrors_both vs ws m i j v v' w w' x x' y y' ne at to s left at' to' s' left' =
     (set_else ws (m.number i) (m.number j) w' y (λ z. ne (m.apart j i (in_range vs j x at') (in_range vs i v at) z))
     to') s' left'
 
-pub mirrors_longer : (vs ws : List Client) → Mirrors vs ws → (v w : Client) → IsShadow v w → w.is_gathered ≡ false →
-    Mirrors (vs ++ v ∷ []) (ws ++ w ∷ [])
-mirrors_longer vs ws m v w s live = record {
-  number = number';
-  each = λ i o e. ⊎_elim
-      (λ p. let q = m.each i o p in (
-        q.0,
-        subst (λ k. get_elem? (ws ++ w ∷ []) k ≡ some q.0)
-            (sym (old i (in_range vs i o p))) (at_longer ws w q.0 (m.number i) q.1),
-        q.2,
-      ))
-      (λ p. (
-        w,
-        subst (λ k. get_elem? (ws ++ w ∷ []) k ≡ some w) (sym (new i (let z = p.0 in omega (arith, z))))
-            (end ws w),
-        subst (λ x. IsShadow x w) p.1 s,
-      )) (at_last vs v o i e);
-  apart = one;
-  others = λ j x e. ⊎_elim
-      (λ p. ⊎_elim (λ z. inl z) (λ q. inr (
-        q.0,
-        (let a = size in let l = q.1 in omega (arith, a, l)),
-        old q.0 q.1 ∙ q.2,
-      )) (m.others j x p))
-      (λ p. inr (
-        length vs,
-        (let a = size in omega (arith, a)),
-        new (length vs) (Rattle.std.proofs.Common.le_refl _) ∙
-            sym p.0,
-      )) (at_last ws w x j e);
-  are_gone = λ j x e z. ⊎_elim (λ p. m.are_gone j x p z) (λ p. clash (ap (λ (y : Client). y.is_gathered) p.1 ∙ z) live)
-      (at_last ws w x j e);
-}
-  where
-    number' : ℕ → ℕ
-    number' i = cond (ltb i (length vs)) (m.number i) (length ws)
+-- the numbers with one client more at the end of both lists
+abbrev pub longer_number : List Client → List Client → (ℕ → ℕ) → ℕ → ℕ
+longer_number vs ws number i = cond (ltb i (length vs)) (number i) (length ws)
 
+pub longer_is : (vs ws : List Client) (number : ℕ → ℕ) (i : ℕ) → i < length vs →
+    longer_number vs ws number i ≡ number i
+longer_is vs ws number i l = let e : ltb i (length vs) ≡ true = grind (arith, nat_tests) in rw e refl
+
+pub longer_new : (vs ws : List Client) (number : ℕ → ℕ) (i : ℕ) → length vs ≤ i →
+    longer_number vs ws number i ≡ length ws
+longer_new vs ws number i l = let e : ltb i (length vs) ≡ false = grind (arith, nat_tests) in rw e refl
+
+-- no two clients have one number
+pub longer_apart : (vs ws : List Client) (m : Mirrors vs ws) (v : Client) (i j : ℕ) → i < length (vs ++ v ∷ []) →
+    j < length (vs ++ v ∷ []) → longer_number vs ws m.number i ≡ longer_number vs ws m.number j → i ≡ j
+longer_apart vs ws m v = one
+  where
     size : length (vs ++ v ∷ []) ≡ suc (length vs)
     size = length-append vs (v ∷ []) ∙ (let z : length vs + 1 ≡ suc (length vs) = omega arith in z)
 
     old : (i : ℕ) → i < length vs → cond (ltb i (length vs)) (m.number i) (length ws) ≡ m.number i
-    old i l = let e : ltb i (length vs) ≡ true = grind (arith, nat_tests) in rw e refl
+    old i l = longer_is vs ws m.number i l
 
     new : (i : ℕ) → length vs ≤ i → cond (ltb i (length vs)) (m.number i) (length ws) ≡ length ws
-    new i l = let e : ltb i (length vs) ≡ false = grind (arith, nat_tests) in rw e refl
-
-    end : (l : List Client) (x : Client) → get_elem? (l ++ x ∷ []) (length l) ≡ some x
-    end [] x = refl
-    end (y ∷ l) x = end l x
+    new i l = longer_new vs ws m.number i l
 
     below : (i : ℕ) → i < length vs → m.number i < length ws
     below i l = let q = at_below vs i l in let p = m.each i q.0 q.1 in in_range ws (m.number i) p.0 p.1
@@ -276,6 +253,53 @@ mirrors_longer vs ws m v w s live = record {
         absurd (let p = below j l1 in let q = old j l1 in let r = new i l0 in omega (arith, p, q, r, e)))
         (λ b. let l1 : length vs ≤ j = grind (arith, nat_tests) in let z = size in omega (arith, z, l, l', l0, l1)))
 
+unfoldable pub mirrors_longer : (vs ws : List Client) → Mirrors vs ws → (v w : Client) → IsShadow v w →
+    w.is_gathered ≡ false → Mirrors (vs ++ v ∷ []) (ws ++ w ∷ [])
+mirrors_longer vs ws m v w s live = record {
+  number = longer_number vs ws m.number;
+  each = λ i o e. ⊎_elim
+      (λ p. let q = m.each i o p in (
+        q.0,
+        subst (λ k. get_elem? (ws ++ w ∷ []) k ≡ some q.0)
+            (sym (old i (in_range vs i o p))) (at_longer ws w q.0 (m.number i) q.1),
+        q.2,
+      ))
+      (λ p. (
+        w,
+        subst (λ k. get_elem? (ws ++ w ∷ []) k ≡ some w) (sym (new i (let z = p.0 in omega (arith, z))))
+            (end ws w),
+        subst (λ x. IsShadow x w) p.1 s,
+      )) (at_last vs v o i e);
+  apart = longer_apart vs ws m v;
+  others = λ j x e. ⊎_elim
+      (λ p. ⊎_elim (λ z. inl z) (λ q. inr (
+        q.0,
+        (let a = size in let l = q.1 in omega (arith, a, l)),
+        old q.0 q.1 ∙ q.2,
+      )) (m.others j x p))
+      (λ p. inr (
+        length vs,
+        (let a = size in omega (arith, a)),
+        new (length vs) (Rattle.std.proofs.Common.le_refl _) ∙
+            sym p.0,
+      )) (at_last ws w x j e);
+  are_gone = λ j x e z. ⊎_elim (λ p. m.are_gone j x p z) (λ p. clash (ap (λ (y : Client). y.is_gathered) p.1 ∙ z) live)
+      (at_last ws w x j e);
+}
+  where
+    size : length (vs ++ v ∷ []) ≡ suc (length vs)
+    size = length-append vs (v ∷ []) ∙ (let z : length vs + 1 ≡ suc (length vs) = omega arith in z)
+
+    old : (i : ℕ) → i < length vs → cond (ltb i (length vs)) (m.number i) (length ws) ≡ m.number i
+    old i l = longer_is vs ws m.number i l
+
+    new : (i : ℕ) → length vs ≤ i → cond (ltb i (length vs)) (m.number i) (length ws) ≡ length ws
+    new i l = longer_new vs ws m.number i l
+
+    end : (l : List Client) (x : Client) → get_elem? (l ++ x ∷ []) (length l) ≡ some x
+    end [] x = refl
+    end (y ∷ l) x = end l x
+
 pub mirrors_opening : Mirrors (opener ∷ []) (opener ∷ [])
 mirrors_opening = record {
   number = λ i. i;
@@ -287,7 +311,7 @@ mirrors_opening = record {
 }
 
 -- after a renewal one client is out
-pub mirrors_renewed : (ws : List Client) (j : ℕ) (v w : Client) → get_elem? ws j ≡ some w → IsShadow v w →
+unfoldable pub mirrors_renewed : (ws : List Client) (j : ℕ) (v w : Client) → get_elem? ws j ≡ some w → IsShadow v w →
     ((k : ℕ) (x : Client) → get_elem? ws k ≡ some x → k ≢ j → x ≡ gone) →
     Mirrors (renewing v ∷ []) (set ws j (renewing w))
 mirrors_renewed ws j v w at s alone = record {
@@ -299,6 +323,17 @@ mirrors_renewed ws j v w at s alone = record {
       (at_set ws j k (renewing w) x e);
   are_gone = λ k x e z. ⊎_elim (λ p. clash (ap (λ (y : Client). y.is_gathered) p.1 ∙ z) refl) (λ p. alone k x p.1 p.0)
       (at_set ws j k (renewing w) x e);
+}
+
+-- the same clients have the same numbers
+unfoldable pub mirrors_of : (vs us ws : List Client) → Mirrors vs ws → us ≡ vs → Mirrors us ws
+mirrors_of vs us ws m e = record {
+  number = m.number;
+  each = λ i v at. m.each i v (subst (λ cs. get_elem? cs i ≡ some v) e at);
+  apart = λ i j l l' q. m.apart i j (subst (λ cs. i < length cs) e l) (subst (λ cs. j < length cs) e l') q;
+  others = λ j w at. subst (λ cs. (w ≡ gone) ⊎ ((i : ℕ) × (i < length cs) × (m.number i ≡ j))) (sym e)
+      (m.others j w at);
+  are_gone = m.are_gone;
 }
 
 -- a step depends on no field that a region does not keep

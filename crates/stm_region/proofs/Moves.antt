@@ -1,5 +1,5 @@
 -- Each step keeps the invariant, and reports its facts.
-use Rattle.std.proofs.Common.{◌≡◌, ◌≢◌, inl, inr, ℕ, zero, suc, ◌+◌, ◌-◌, ◌*◌, ◌/◌, ◌%◌, ◌^◌, ◌≤◌, ◌<◌, min, cond}
+use Rattle.std.proofs.Common.{◌≡◌, inl, inr, ℕ, zero, suc, ◌+◌, ◌-◌, ◌*◌, ◌/◌, ◌%◌, ◌^◌, ◌≤◌, ◌<◌, cond}
 use Rattle.std.proofs.Common.{eq-eqb, ne_eqb, Bool, true, false, List, [], ◌∷◌, length, set, slice_index, refl, sym, ap}
 use Rattle.std.proofs.Common.{◌∙◌, subst, arith}
 use mathlib.Core.Option.{none, some, some-injective, some-ne-none}
@@ -12,30 +12,29 @@ use Rattle.atomic_table.proofs.Lists.{set_else}
 use Rattle.atomic_table.specs.Seated.{TableId}
 use Rattle.tx_memory.specs.Image.{In, Agrees, laid}
 use Rattle.stm_core.specs.Client.{Client, Record, running, old_version, RecordLaw, shed}
-use Rattle.stm_core.specs.Core.{Core, bounds_of, found, left, written, stepped, divided, gathered, IsFreeHanded}
+use Rattle.stm_core.specs.Core.{Core, bounds_of, found, left, written, stepped, IsFreeHanded}
 use Rattle.stm_core.specs.Event.{Action, begin, probe, check, lock, tick, validate, put, release, give_back, finish}
-use Rattle.stm_core.specs.Event.{after, decision, giving, fresh, taking, gone}
+use Rattle.stm_core.specs.Event.{after, decision, giving, fresh, gone}
 use Rattle.stm_core.specs.History.{Serial, SomeFits, all_records}
 use Rattle.stm_core.specs.Invariant.{now, Rule}
 use Rattle.stm_core.proofs.Eras.{in_append, of_is}
 use Rattle.stm_core.proofs.Lones.{at_map, goes_on}
 use Rattle.stm_core.specs.Guards.{Holds, MayAct, May, stripe_of}
 use Rattle.stm_core.proofs.Conditions.{can_act}
-use Rattle.stm_core.proofs.Renewals.{step_rules}
-use Rattle.stm_core.proofs.Renewing.{split_rules, gather_rules}
 use Rattle.stm_core.proofs.Whole.{whole_shared, opening_fits, knows}
 use Rattle.stm_core.proofs.Histories.{image_fits}
-use Rattle.stm_core.proofs.Facts.{some_fits, grants_of_two, ahead, all_lawful, one_version}
+use Rattle.stm_core.proofs.Facts.{some_fits, ahead, all_lawful, one_version}
 use Rattle.stm_region.specs.Shown.{Opened, RegionShown, with_gathered, opened_with, bounds, unplaced}
 use Rattle.stm_region.specs.declared.layout.TheConstants.{FIRST_LOCK}
 use Rattle.stm_region.specs.Layout.{place, first_cell, InRange, IsLaid, IsStore}
 use Rattle.stm_region.specs.Findings.{IsLockWord, IsVersion, StandsOn, IsRightAfter, IsOneEvent, IsOfOneVersionAt}
 use Rattle.stm_region.specs.Findings.{DecidesAt, Tells, Happens, acting, IsEarlier, AreEarlier}
-use Rattle.stm_region.specs.Traced.{IsTraced}
 use Rattle.stm_region.specs.Rule.{IsCoreState}
-use Rattle.stm_region.proofs.Tracing.{step_traced, step_listed, step_opened, step_numbers, split_traced, gather_traced}
+use Rattle.stm_region.proofs.Tracing.{step_traced, step_listed, step_opened, step_numbers}
 use Rattle.stm_region.proofs.Deciding.{Makes, tick_makes, validate_makes, finish_makes}
-use Rattle.stm_region.proofs.Places.{Stays, stays, found_there, left_there, in_table}
+use Rattle.stm_region.proofs.Places.{Stays, stays, in_table}
+use Rattle.stm_region.proofs.Stepping.{kept_after, member, there as there_is, may_here, rule_after, split_kept, gather_kept}
+use Rattle.stm_region.specs.Runs.{bounds_at}
 
 not_in : {A : Type 0} (x : A) → In x [] → ⊥
 not_in x m = some-ne-none x (sym m.1)
@@ -101,16 +100,6 @@ pub record Matches (o : Opened) (c : Core) : Type 0 where
   pub first : c.first ≡ o.first
   pub renewal : c.renewal ≡ o.renewal
   pub locks : length c.locks ≡ o.stripes
-
--- the bound on the number of grants takes no grant away
-pub gathered_takes : (lawful : RecordLaw) (l : ℕ → ℕ) (c : Core) → Rule lawful l c → (i j : ℕ) (v w : Client) → i ≢ j →
-    get_elem? c.clients i ≡ some v → get_elem? c.clients j ≡ some w → v.is_gathered ≡ false → w.is_gathered ≡ false →
-    with_gathered v w ≡ taking v w
-gathered_takes lawful l c inv i j v w ne at to un un' =
-    let n = grants_of_two lawful l (now c) inv.inv i j (shed c.renewal v) (shed c.renewal w) ne
-    (at_map (shed c.renewal) c.clients i v at) (at_map (shed c.renewal) c.clients j w to) un un' in
-    let e : min (v.grants + w.grants + 1) 63 ≡ v.grants + w.grants + 1 = omega arith in
-    λ k. record (taking v w) { grants = e k }
 
 in_kept : (b : Bool) (l : List Record) (x : Record) → In x (cond b l []) → In x l
 in_kept true l x m = m
@@ -358,16 +347,15 @@ module _ (fits : List ℕ → Type 0) (lawful : RecordLaw) (law : Keeping fits l
     acts_allowed slots id me e word f told z is range may does tells s h len at lt =
         let v : Client = me.0 in
         let c : Core = h.core in
+        let range' : InRange o.stripes (length o.image) e = subst (λ n. InRange r.stripes n e) (sym z) range in
+        let may0 : May lawful lk (bounds_at o) e v =
+        subst (λ n. May lawful lk record { last = r.last; stripes = r.stripes; size = n } e v) (sym z) may in
         let there : slice_index s.words word ≡ found lk c e =
-        rw (is, h.words) (found_there h.gap h.pad c r.stripes h.before_locks h.locks h.before_cells e h.some r.size
-        range) in
-        let at' : get_elem? c.clients id ≡ some v = subst (λ vs. get_elem? vs id ≡ some v) h.views at in
-        let same : bounds_of c ≡ bounds r = (let l = h.last in let k = h.locks in let w =
-        h.rule.inv.size ∙ (ap length h.opening ∙ z) in λ i. record { last = l i; stripes = k i; size = w i }) in
-        let may' : May lawful lk (bounds_of c) e v = subst (λ b. May lawful lk b e v) (sym same) may in
+        ap (slice_index s.words) is ∙ there_is fits lawful o s h id v at e range' may0 in
+        let at' : get_elem? c.clients id ≡ some v = member fits lawful o s h id v at e range' may0 in
+        let may' : May lawful lk (bounds_of c) e v = may_here fits lawful o s h id v at e range' may0 in
         let inv' : Rule lawful lk (stepped (unplaced r.renewal) lk e id v c) =
-        step_rules lawful lk c h.rule id v at' may'.0 (unplaced r.renewal) (sym h.renewal) e
-        (can_act lk lawful (bounds_of c) v.attempt e may'.1) in
+        rule_after fits lawful o s h id v at e range' may0 in
         let st : Stays c (written e (left e (found lk c e) v) c) = stays c e (left e (found lk c e) v) in
         let m' : Matches o (stepped (unplaced r.renewal) lk e id v c) =
         record {
@@ -379,8 +367,6 @@ module _ (fits : List ℕ → Type 0) (lawful : RecordLaw) (law : Keeping fits l
         } in
         let here : get_elem? (stepped (unplaced r.renewal) lk e id v c).clients id ≡ some
         (after (unplaced r.renewal) lk e (found lk c e) v) = in_clients c.clients id v _ at' in
-        let traced' : IsTraced lawful o (stepped (unplaced r.renewal) lk e id v c) =
-        step_traced lawful o c h.traced id v at' e may' r.renewal (sym h.renewal) in
         let right : IsRightAfter lawful r e (found lk c e) v id (stepped (unplaced r.renewal) lk e id v c) =
         record {
           before = c;
@@ -388,39 +374,21 @@ module _ (fits : List ℕ → Type 0) (lawful : RecordLaw) (law : Keeping fits l
           finds = refl;
           now = refl;
           traced = h.traced;
-          listed = traced';
-          opened =
-              step_opened lawful o c h.traced id v at' e may' r.renewal (sym h.renewal);
-          numbers =
-              step_numbers lawful o c h.traced id v at' e may' r.renewal (sym h.renewal);
-          last_event =
-              step_listed lawful o c h.traced id v at' e may' r.renewal (sym h.renewal);
+          goes_on = λ t. (
+            step_traced lawful o c t id v at' e may' r.renewal (sym h.renewal),
+            step_opened lawful o c t id v at' e may' r.renewal (sym h.renewal),
+            step_numbers lawful o c t id v at' e may' r.renewal (sym h.renewal),
+            step_listed lawful o c t id v at' e may' r.renewal (sym h.renewal),
+          );
         } in
         let does' : f (slice_index s.words word) ≡ left e (found lk c e) v =
         ap f there ∙ does c h.rule at' (subst (λ n. n < 18446744073709551616) there lt) in (
           after (unplaced r.renewal) lk e (slice_index s.words word) v,
           keeps,
           tt,
-          record {
-            core = stepped (unplaced r.renewal) lk e id v c;
-            gap = h.gap;
-            pad = h.pad;
-            words = rw (does', h.words, is) (left_there h.gap h.pad c r.stripes h.before_locks h.locks h.before_cells e
-                h.some r.size range v);
-            views = rw (h.views, there) refl;
-            before_locks = h.before_locks;
-            locks = m'.locks;
-            before_cells = h.before_cells;
-            last = m'.last;
-            opening = m'.opening;
-            first = m'.first;
-            renewal = m'.renewal;
-            rule = inv';
-            traced = traced';
-            fitting = h.fitting;
-            bounded = h.bounded;
-            some = h.some;
-          },
+          subst (λ w. IsCoreState fits lawful o (Rattle.atomic_table.specs.Table.stepped s w
+              (f (slice_index s.words word)) id me.1 (after (unplaced r.renewal) lk e (slice_index s.words w) v) keeps)) (sym is)
+              (kept_after fits lawful o s h id v at e range' may0 (f (slice_index s.words word)) does'),
           tells (slice_index s.words word) (rw there (told_of c (stepped (unplaced r.renewal) lk e id v c)
               (matches s h) m' z h.bounded h.fitting h.rule inv' id v e at' here right may'.1))
               (rw there (event_of (stepped (unplaced r.renewal) lk e id v c) m' z inv' id
@@ -499,26 +467,7 @@ module _ (fits : List ℕ → Type 0) (lawful : RecordLaw) (law : Keeping fits l
 
     -- a client splits off another
     split_allowed : (id : ℕ) (v : Client) → IsFreeHanded v → 0 < v.grants → Splits Kept id v (giving v) (fresh v)
-    split_allowed id v free gr s h at =
-        let at' : get_elem? h.core.clients id ≡ some v = subst (λ vs. get_elem? vs id ≡ some v) h.views at in record {
-          core = divided id v h.core;
-          gap = h.gap;
-          pad = h.pad;
-          words = h.words;
-          views = rw h.views refl;
-          before_locks = h.before_locks;
-          locks = h.locks;
-          before_cells = h.before_cells;
-          last = h.last;
-          opening = h.opening;
-          first = h.first;
-          renewal = h.renewal;
-          rule = split_rules lawful lk h.core h.rule id v at' free gr;
-          traced = split_traced lawful o h.core h.traced id v at' free gr;
-          fitting = h.fitting;
-          bounded = h.bounded;
-          some = h.some;
-        }
+    split_allowed id v free gr s h at = split_kept fits lawful o s h id v at free gr
 
     pub splits_here : (words : ℕ) (key : Opened) → Runs words key r → (id : ℕ) (v : Client) → IsFreeHanded v →
         0 < v.grants → (0 < words) × Splits (IsCoreState {S = S} fits lawful key) id v (giving v) (fresh v)
@@ -532,33 +481,8 @@ module _ (fits : List ℕ → Type 0) (lawful : RecordLaw) (law : Keeping fits l
     -- a client gathers another
     join_allowed : (id : ℕ) (v : Client) (other : ℕ) (w : Client) → IsFreeHanded v → IsFreeHanded w →
         Joins Kept id v other w (with_gathered v w) gone
-    join_allowed id v other w free free' s h at ne to =
-        let at' : get_elem? h.core.clients id ≡ some v = subst (λ vs. get_elem? vs id ≡ some v) h.views at in
-        let to' : get_elem? (set h.core.clients id (with_gathered v w)) other ≡ some w =
-        subst (λ vs. get_elem? (set vs id (with_gathered v w)) other ≡ some w) h.views to in
-        let was : get_elem? h.core.clients other ≡ some w = sym
-        (set_else h.core.clients id other (with_gathered v w) ne) ∙
-        to' in
-        let all : with_gathered v w ≡ taking v w = gathered_takes lawful lk h.core h.rule id other v w
-        (λ e. ne (sym e)) at' was free.0 free'.0 in record {
-          core = gathered id v other w h.core;
-          gap = h.gap;
-          pad = h.pad;
-          words = h.words;
-          views = rw (h.views, all) refl;
-          before_locks = h.before_locks;
-          locks = h.locks;
-          before_cells = h.before_cells;
-          last = h.last;
-          opening = h.opening;
-          first = h.first;
-          renewal = h.renewal;
-          rule = gather_rules lawful lk h.core h.rule id v at' other w was (λ e. ne (sym e)) free free';
-          traced = gather_traced lawful o h.core h.traced id v at' other w was (λ e. ne (sym e)) free free';
-          fitting = h.fitting;
-          bounded = h.bounded;
-          some = h.some;
-        }
+    join_allowed id v other w free free' s h at ne to = gather_kept fits lawful o s h id v at other w
+        (sym (set_else s.views id other (with_gathered v w) ne) ∙ to) (λ e. ne (sym e)) free free'
 
     pub joins_here : (words : ℕ) (key : Opened) → Runs words key r → (id : ℕ) (v : Client) (other : ℕ) (w : Client) →
         IsFreeHanded v → IsFreeHanded w → (0 < words) × Joins (IsCoreState {S = S} fits lawful key) id v other w

@@ -1,7 +1,7 @@
 -- Each step of a region, each split, gathering and renewal is one more event of the list that
 -- leads to its core state.
 use Rattle.std.proofs.Common.{◌≡◌, ◌≢◌, ℕ, suc, ◌+◌, ◌-◌, ◌≤◌, ◌<◌, true, false, List, [], ◌∷◌, ◌++◌, ⊎_elim, length}
-use Rattle.std.proofs.Common.{set, get_or, replicate, refl, sym, ap, ◌∙◌, subst, arith}
+use Rattle.std.proofs.Common.{set, get_or, replicate, length-set, refl, sym, ap, ◌∙◌, subst, arith}
 use mathlib.Core.Option.{some}
 use mathlib.Core.Logic.{dite}
 use native.Mathlib.Decide.{ℕ_discrete}
@@ -21,7 +21,8 @@ use Rattle.stm_core.proofs.Renewing.{at_below}
 use Rattle.stm_region.specs.Shown.{Opened, unplaced}
 use Rattle.stm_region.specs.Traced.{unplaced_attempt, unplaced_client, IsShadow, Mirrors, IsTraced}
 use Rattle.stm_region.proofs.Mirroring.{shadow_after, shadow_giving, shadow_fresh, shadow_taking, after_gathered}
-use Rattle.stm_region.proofs.Mirroring.{mirrors_set, mirrors_both, mirrors_longer, mirrors_opening, mirrors_renewed}
+use Rattle.stm_region.proofs.Mirroring.{mirrors_set, mirrors_both, mirrors_longer, longer_is, mirrors_opening}
+use Rattle.stm_region.proofs.Mirroring.{mirrors_renewed}
 use Rattle.stm_region.proofs.Mirroring.{may_shadow, lawful_shadow, found_same, WordsAfter, words_same, both_true}
 use Rattle.stm_region.proofs.Mirroring.{others_are, value_there}
 
@@ -188,6 +189,22 @@ module _ (lawful : RecordLaw) (o : Opened) (c : Core) (t : IsTraced lawful o c) 
               (fresh v) (fresh w) (shadow_fresh v w s) refl;
         }
 
+    pub split_listed : (free : IsFreeHanded v) (more : 0 < v.grants) →
+        (split_traced free more).events ≡ t.events ++ splits (suc (t.clients.number id)) ∷ []
+    unfolding split_traced
+    split_listed free more = refl
+
+    pub split_opened : (free : IsFreeHanded v) (more : 0 < v.grants) → (split_traced free more).last ≡ t.last
+    unfolding split_traced
+    split_opened free more = refl
+
+    pub split_numbers : (free : IsFreeHanded v) (more : 0 < v.grants) (i : ℕ) → i < length c.clients →
+        (split_traced free more).clients.number i ≡ t.clients.number i
+    unfolding split_traced mirrors_longer mirrors_set
+    split_numbers free more i l =
+        longer_is (set c.clients id (giving v)) _ t.clients.number i
+        (subst (λ n. i < n) (sym (length-set c.clients id (giving v))) l)
+
     -- a renewal
     pub renewal_traced : IsFreeHanded v → IsAlone c id → (last : ℕ) → 1 ≤ last → last < VERSION_LIMIT →
         o.renewal < MOST_RENEWALS → c.first ≡ o.first → c.renewal ≡ o.renewal → length c.locks ≡ o.stripes
@@ -247,6 +264,23 @@ module _ (lawful : RecordLaw) (o : Opened) (c : Core) (t : IsTraced lawful o c) 
               (mirrors_renewed t.core.clients (t.clients.number id) v w (there ∙ ap some (sym value)) s only);
         }
 
+    module _ (free : IsFreeHanded v) (alone : IsAlone c id) (last : ℕ) (low : 1 ≤ last) (high : last < VERSION_LIMIT)
+        (few : o.renewal < MOST_RENEWALS) (first : c.first ≡ o.first) (renewal : c.renewal ≡ o.renewal)
+        (locks : length c.locks ≡ o.stripes) where
+      pub renewal_listed : (renewal_traced free alone last low high few first renewal locks).events
+          ≡ t.events ++ renews (suc (t.clients.number id)) last ∷ []
+      unfolding renewal_traced
+      renewal_listed = refl
+
+      pub renewal_opened : (renewal_traced free alone last low high few first renewal locks).last ≡ t.last
+      unfolding renewal_traced
+      renewal_opened = refl
+
+      pub renewal_numbers : (renewal_traced free alone last low high few first renewal locks).clients.number 0
+          ≡ t.clients.number id
+      unfolding renewal_traced mirrors_renewed
+      renewal_numbers = refl
+
   -- a gather
   pub gather_traced : (id : ℕ) (v : Client) (at : get_elem? c.clients id ≡ some v) (other : ℕ) (x : Client)
       (to : get_elem? c.clients other ≡ some x) → id ≢ other → IsFreeHanded v → IsFreeHanded x →
@@ -294,3 +328,19 @@ module _ (lawful : RecordLaw) (o : Opened) (c : Core) (t : IsTraced lawful o c) 
             (set (set t.core.clients (t.clients.number id) (taking w y)) m gone))
             (sym (one_less other x to)) both');
       }
+
+  module _ (id : ℕ) (v : Client) (at : get_elem? c.clients id ≡ some v) (other : ℕ) (x : Client)
+      (to : get_elem? c.clients other ≡ some x) (ne : id ≢ other) (free : IsFreeHanded v) (free' : IsFreeHanded x) where
+    pub gather_listed : (gather_traced id v at other x to ne free free').events
+        ≡ t.events ++ gathers (suc (t.clients.number id)) (suc (t.clients.number other)) ∷ []
+    unfolding gather_traced
+    gather_listed = refl
+
+    pub gather_opened : (gather_traced id v at other x to ne free free').last ≡ t.last
+    unfolding gather_traced
+    gather_opened = refl
+
+    pub gather_numbers : (i : ℕ) → (gather_traced id v at other x to ne free free').clients.number i
+        ≡ t.clients.number i
+    unfolding gather_traced mirrors_both mirrors_set
+    gather_numbers i = refl

@@ -56,22 +56,23 @@ pub record IsRightAfter (lawful : RecordLaw) (region : RegionShown) (step : Acti
   pub finds : found (stripe_of region.stripes) before step ≡ word
   pub now : core
       ≡ stepped (unplaced region.renewal) (stripe_of region.stripes) step number was before
-  -- the list of events that leads to this core state is the list that leads to the state before,
-  -- followed by the step. Both lists begin with one opening, and each client has one number in
-  -- both
+  -- some list of allowed events leads to the core state before. Whatever list does: that list,
+  -- with the step at its end, leads to this core state. Both lists begin with one opening, and
+  -- each client has one number in both
   pub traced : IsTraced lawful (opened_with region) before
-  pub listed : IsTraced lawful (opened_with region) core
-  pub opened : listed.last ≡ traced.last
-  pub numbers : (place : ℕ) → listed.clients.number place ≡ traced.clients.number place
-  pub last_event : listed.events
-      ≡ traced.events ++ acts (suc (traced.clients.number number)) step ∷ []
+  pub goes_on : (t : IsTraced lawful (opened_with region) before)
+      → (t' : IsTraced lawful (opened_with region) core) × (t'.last ≡ t.last)
+      × ((place : ℕ) → t'.clients.number place ≡ t.clients.number place)
+      × (t'.events ≡ t.events ++ acts (suc (t.clients.number number)) step ∷ [])
 
 -- the step was one event of this region: right after it, a core state of the region that meets the
 -- invariant has this value of the client
 -- Not said: that a step succeeds; that a step call makes no further load that changes nothing,
 -- which is read in `accesses.rt`.
--- Not said: of the states that two calls name, that the list of the later one goes on from that of
--- the earlier one.
+-- Not said: that the core state before is the region's state during the call, and not an earlier
+-- one in which the client had the same value. Which accesses a step call makes is read in
+-- `accesses.rt`. Of the states of one run, the list of a later one goes on from that of an earlier
+-- one (`HasOneList`).
 pub record IsOneEvent (lawful : RecordLaw) (region : RegionShown) (step : Action) (word : ℕ)
     (was v : Client) : Type 0 where
   -- the core state belongs to this region

@@ -7,3 +7,5 @@ pub mod Running
 pub mod Refused
 pub mod Closed
 pub mod Renewed
+pub mod Runs
+pub mod RealTime

@@ -16,8 +16,8 @@ use Rattle.stm_region.specs.Rule.{listed}
 use Rattle.stm_region.specs.declared.layout.TheConstants.{FIRST_LOCK}
 
 -- some list of allowed events leads to a core with the table's words and clients
--- Not said: of two states, that the list of the later one begins with that of the earlier one:
--- each has a list of its own.
+-- Not said: of two states, that the list of the later one begins with that of the earlier one. Of
+-- the states of one run that holds (`HasOneList`).
 -- Not said: of a region that was renewed, at which last version the first of its clocks ended: it
 -- is some number for which the list is allowed.
 pub record IsListed (lawful : RecordLaw) (o : Opened) (s : State (Unit {0}) Client) : Type 0 where

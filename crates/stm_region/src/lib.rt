@@ -29,6 +29,6 @@ pub use probed::Probed;
 pub use region::Region;
 pub use renew::RenewFault;
 pub use rule::{
-    gathering_keeps_all_grants, reads_are_of_one_version, records_are_serial,
-    running_threads_are_a_list,
+    a_run_has_one_list, every_list_goes_on, gathering_keeps_all_grants, reads_are_of_one_version,
+    records_are_serial, running_threads_are_a_list, runs_keep_real_time,
 };

@@ -7,6 +7,8 @@ ghost use Rattle.stm_core.specs.History.{Serial, Sub, all_records, image_at};
 ghost use Rattle.stm_region.specs.Shown.{with_gathered};
 ghost use Rattle.stm_region.specs.Rule.{Always, OfEach, OfEachTwo};
 ghost use Rattle.stm_region.specs.Running.{IsListed};
+ghost use Rattle.stm_region.specs.Runs.{EveryListGoesOn, EveryRunHasOneList};
+ghost use Rattle.stm_region.specs.RealTime.{EveryRunKeepsRealTime};
 
 use stm_core::Law;
 
@@ -46,4 +48,28 @@ pub fn reads_are_of_one_version<L: Law>()
 pub fn gathering_keeps_all_grants<L: Law>()
     ensures { Always L.fits L.lawful (λ o s. OfEachTwo s (λ v w.
         v.is_gathered ≡ false → w.is_gathered ≡ false → with_gathered v w ≡ taking v w)) }
+{}
+
+/// States that each move goes on with the list before it. A move is a step of a client, a split, a
+/// gathering or a renewal. Whatever list of allowed events leads to the state before the move: the
+/// list with the move's event at its end, and nothing else, leads to the state after the move.
+pub fn every_list_goes_on<L: Law>()
+    ensures { EveryListGoesOn L.fits L.lawful }
+{}
+
+/// States that a run of a region has one list of events. A run is a sequence of states, each
+/// reached from the one before by a move of some client. Each state meets the invariant, and the
+/// list of each state is a prefix of the list of every later state.
+pub fn a_run_has_one_list<L: Law>()
+    ensures { EveryRunHasOneList L.fits L.lawful }
+{}
+
+/// States that the order of the records keeps the real time of a run. A call that has returned in
+/// some state of the run has its record there. A call that begins after that state gets a later
+/// record, whichever clients make the two calls.
+///
+/// Not said: that the moves of a program's threads are such a run. `atomic_table` says that each of
+/// its accesses is one change of the table, and the step calls of `Region` say which.
+pub fn runs_keep_real_time<L: Law>()
+    ensures { EveryRunKeepsRealTime L.fits L.lawful }
 {}
