@@ -159,8 +159,9 @@ class Ours:
     def command(self, settings):
         return [self.program, "load", *options_of(settings), "--tries", str(self.tries), "--stats"]
 
-    def run(self, settings, _):
-        output, errors = execute(self.command(settings), subprocess.DEVNULL, {}, settings["clients"])
+    def run(self, settings, _, pins=True):
+        clients = settings["clients"] if pins else None
+        output, errors = execute(self.command(settings), subprocess.DEVNULL, {}, clients)
         return Run(*output.splitlines(), errors)
 
     def history(self, settings, _):
@@ -199,8 +200,9 @@ class Peer:
         with open(tasks, "rb") as stdin:
             return execute([*words, "--blocks", str(settings["blocks"])], stdin, self.environment, pinned)
 
-    def run(self, settings, tasks):
-        output, errors = self.execute(settings, None if self.draws else tasks, pinned=settings["clients"])
+    def run(self, settings, tasks, pins=True):
+        clients = settings["clients"] if pins else None
+        output, errors = self.execute(settings, None if self.draws else tasks, pinned=clients)
         run = Run(*output.splitlines(), errors)
         if run.seconds is None:
             give_up(f"{self.name} tells no seconds on standard error")

@@ -14,7 +14,7 @@ from pathlib import Path
 ROOT = Path(__file__).resolve().parent.parent
 PATIENCE = 120
 # The commands whose tools have a help of their own.
-WITH_HELP = ("bench", "mutate", "sizes", "ledger")
+WITH_HELP = ("bench", "time", "profile", "mutate", "sizes", "ledger")
 faults = []
 
 

@@ -21,11 +21,11 @@ from programs import options_of
 
 # The most instructions of a task, by setting.
 MOST = {
-    "large": 7_250,
-    "crowded": 8_050,
-    "defaults": 6_350,
-    "apart": 6_250,
-    "readers": 4_250,
+    "large": 7_150,
+    "crowded": 7_890,
+    "defaults": 6_220,
+    "apart": 6_160,
+    "readers": 4_150,
 }
 TASKS = 2_000
 # Enough for a run under callgrind on a busy machine, in seconds.

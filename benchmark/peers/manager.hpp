@@ -203,14 +203,15 @@ Outcome book(Memory memory, unsigned start, Addr link, Addr next, Kind kind, Id 
     return Outcome::Done;
 }
 
+// Books units of an item at its price, which the caller has read.
 template <class Memory>
 Outcome reserve_at(Memory memory, unsigned start, Addr customer, Kind kind, Id id, Addr item,
-                   Count num)
+                   Count num, Word price)
 {
     const Word free = memory.read(item + FREE);
     if (free < num)
         return Outcome::SoldOut;
-    const Word sum = num * memory.read(item + PRICE);
+    const Word sum = num * price;
     const Spot spot = seek(memory, customer, kind, id);
     const Outcome outcome = spot.booking != 0
                                 ? book_more(memory, spot.booking, num, sum)
@@ -231,7 +232,8 @@ Outcome reserve(Memory memory, unsigned start, Id customer_id, Kind kind, Id id,
     const Addr item = find_item(memory, kind, id);
     if (item == 0)
         return Outcome::NoItem;
-    return reserve_at(memory, start, customer, kind, id, item, num);
+    const Word price = memory.read(item + PRICE);
+    return reserve_at(memory, start, customer, kind, id, item, num, price);
 }
 
 template <class Memory>
@@ -300,14 +302,17 @@ Word bill(Memory memory, Id id)
     return customer == 0 ? NO_NUMBER : bill_at(memory, customer);
 }
 
-// Gives all bookings back, and takes the customer out of the table.
+// Gives all bookings back, and takes the customer out of the table. Returns the customer's bill,
+// which is added up in the same walk.
 template <class Memory>
-void drop_customer_at(Memory memory, unsigned start, Id id, Addr customer)
+Word drop_customer_at(Memory memory, unsigned start, Id id, Addr customer)
 {
+    Word total = 0;
     const Addr first = follow(memory, customer + BOOKINGS);
     for (Addr booking = first; booking != 0;) {
         const Kind kind = static_cast<Kind>(memory.read(booking + BOOKED_KIND));
         const Id item_id = static_cast<Id>(memory.read(booking + BOOKED_ID));
+        total += memory.read(booking + SUM);
         const Addr item = find_item(memory, kind, item_id);
         const Addr next = follow(memory, booking + NEXT);
         give_units_back(memory, item, memory.read(booking + UNITS));
@@ -317,6 +322,7 @@ void drop_customer_at(Memory memory, unsigned start, Id id, Addr customer)
     if (first != 0)
         memory.write(customer + BOOKINGS, 0);
     remove_entry(memory, start, CUSTOMERS, id);
+    return total;
 }
 
 template <class Memory>
@@ -433,6 +439,7 @@ public:
     // The block of the item that was chosen, or 0.
     PRIVATE_TO_THREAD Addr item(unsigned kind) const { return choices_[kind].item; }
     PRIVATE_TO_THREAD Id id(unsigned kind) const { return choices_[kind].id; }
+    PRIVATE_TO_THREAD Word price(unsigned kind) const { return choices_[kind].price; }
 
 private:
     struct Choice {
@@ -468,7 +475,8 @@ void book_choices(Memory memory, unsigned start, Id customer_id, const Choices& 
         const Id id = choices.id(i);
         const Outcome outcome =
             customer == 0 ? Outcome::NoCustomer
-                          : reserve_at(memory, start, customer, static_cast<Kind>(i), id, item, 1);
+                          : reserve_at(memory, start, customer, static_cast<Kind>(i), id, item, 1,
+                                       choices.price(i));
         reply.set_pick(i, outcome, id);
     }
 }
@@ -499,8 +507,7 @@ void run_leave(Memory memory, unsigned start, Id customer_id, Reply& reply)
     const Addr customer = find_customer(memory, customer_id);
     if (customer == 0)
         return reply.set_number(NO_NUMBER);
-    reply.set_number(bill_at(memory, customer));
-    drop_customer_at(memory, start, customer_id, customer);
+    reply.set_number(drop_customer_at(memory, start, customer_id, customer));
 }
 
 // Runs a task as the body of a transaction over this memory.

@@ -88,6 +88,8 @@ COMMANDS = {
     "unproved": Command("FILE [PROGRAM]", "build vacation, or another program, with nothing proved, as this file",
                         script("tools/unproved.py"), ("rt",)),
     "bench": Command("[OPTION]..", "measure the program beside its peers", script("benchmark/measure.py")),
+    "time": Command("[OPTION]..", "compare times with one peer by pairs of runs", script("benchmark/pairs.py")),
+    "profile": Command("[OPTION]..", "print the hottest functions and instructions", script("benchmark/samples.py")),
     "package": Command("[VACATION JUDGE FOLDER [KV_JUDGE]]", "pack a tarball and a Debian package", package, ("git",)),
     "new-law": Command("NAME", "write a crate with a transactional object of its own", script("tools/new_law")),
     "new-object": Command("NAME", "write a crate with a sequential object, and a judge of its histories",

@@ -45,7 +45,7 @@ use Rattle.vac_records.proofs.Links.{list_one}
 use Rattle.vac_records.proofs.Single.{none_left, some_left}
 use Rattle.vac_tasks.specs.declared.bookings.Offer.{Offer}
 use Rattle.vac_tasks.specs.Entries.{ItemIsAt, CustomerIsAt}
-use Rattle.vac_tasks.specs.BookingSteps.{booking_block, Here, AtSpot, HasSpot, IsOffered, Lands, ServesCommand}
+use Rattle.vac_tasks.specs.BookingSteps.{booking_block, Here, AtSpot, AtPrice, HasSpot, IsOffered, Lands, ServesCommand}
 use Rattle.vac_tasks.specs.Starts.{LeavesBooking}
 use Rattle.vac_tasks.proofs.Listed.{list_of_item, list_same, customer_still, list_after}
 use Rattle.vac_tasks.proofs.Serving.{reads_serve}
@@ -144,7 +144,7 @@ module _ (m : ℕ → ℕ) (n : ℕ) (s : State) (h : IsState m n s) (customer o
         })
 
     module _ (m2 : ℕ → ℕ) (num price : ℕ) (k : IsBooked m1 m2 n owner rows_now (kind, id) num price b)
-        (free : num ≤ m (item + 5)) (price_is : m (item + 7) ≡ price) where
+        (free : num ≤ m (item + 5)) where
       written : Stays hand.after k.between (b ∷ []) s
       written = block_written m1 k.between n b [] s t.block hand.after k.made.others
 
@@ -192,9 +192,9 @@ module _ (m : ℕ → ℕ) (n : ℕ) (s : State) (h : IsState m n s) (customer o
       pub used_fits : m2 (item + 4) + num < 2 ^ 64
       used_fits = omega (arith, counts_fit m n s h kind id item num there free, ap (λ (x : Item). x.used) item_same)
 
-      pub added_lands : (m3 : ℕ → ℕ) → IsItemNow m2 m3 item (taken (item_in m2 item) num) →
+      pub added_lands : (m3 : ℕ → ℕ) → m (item + 7) ≡ price → IsItemNow m2 m3 item (taken (item_in m2 item) num) →
           Lands h m3 (command.Reserve customer kind id num) reply.Done
-      added_lands m3 made =
+      added_lands m3 price_is made =
           let after = item_replaced m2 m3 n [] more kind id item joined.after item_at made.others in
           let f : nat_lt (item_in m item).free num ≡ false = enough_free (m (item + 5)) num free in
           let r : is_full s ≡ false = has_room s (some_left m1 n b s hand.after) in
@@ -252,11 +252,13 @@ module _ (s : View) (customer owner : ℕ) (kind : Kind) (id item num : ℕ) (of
   none image state h p = none_at (mem s image) (length image) state h customer owner kind id item spot absent p
 
   pub no_block : (s1 : View) → NoneFree s s1 → ServesCommand s s1 (command.Reserve customer kind id num) (reply.No Full)
-      (AtSpot customer owner kind id item spot)
+      (AtPrice item offer.price (AtSpot customer owner kind id item spot))
   no_block s1 z = reads_serve s s1 (command.Reserve customer kind id num) (reply.No Full)
-      (AtSpot customer owner kind id item spot) (record { kept = z.kept; writes = z.writes }) (λ image state i h p.
+      (AtPrice item offer.price (AtSpot customer owner kind id item spot))
+      (record { kept = z.kept; writes = z.writes }) (λ image state i h p.
       let q = h.represents.parts in
-      no_place (mem s image) (length image) state h customer owner kind id item p.here (none image state h p)
+      no_place (mem s image) (length image) state h customer owner kind id item p.there.here
+      (none image state h p.there)
       num (enough_at image (z.kept.seen image i)) (z.none image q.free (used_in q) (count_in q) i
       (pool_there (mem s image) (length image) [] state h.represents)))
 
@@ -319,8 +321,7 @@ module _ (s : View) (customer owner : ℕ) (kind : Kind) (id item num : ℕ) (of
       free_now image state i i1 i0 h p =
           free_same (mem s image) (length image) state h customer owner kind id item p.here (none image state h p)
           (mem s1 image) b start (its_taking image state i1 h)
-          (mem s2 image) num offer.price (its_booking image state i i1 h p) (enough_at image i0) (o.price_is image i0) ∙
-          o.free_is image i0
+          (mem s2 image) num offer.price (its_booking image state i i1 h p) (enough_at image i0) ∙ o.free_is image i0
 
       pub can_make : HoldsState s → CustomerIsAt s customer owner → ItemIsAt s kind id item →
           HasSpot s owner (kind, id) spot → id < 2 ^ 32 → CanMakeOf s2 item num offer.free
@@ -347,13 +348,13 @@ module _ (s : View) (customer owner : ℕ) (kind : Kind) (id item num : ℕ) (of
                   let p = at image r.0 i0 r.1 in
                   used_fits (mem s image) (length image) r.0 r.1 customer owner kind id item p.here
                   (none image r.0 r.1 p) (mem s1 image) b start (its_taking image r.0 i1.sees r.1)
-                  (mem s2 image) num offer.price (its_booking image r.0 i.sees i1.sees r.1 p) (enough_at image i0.sees)
-                  (o.price_is image i0.sees);
+                  (mem s2 image) num offer.price (its_booking image r.0 i.sees i1.sees r.1 p) (enough_at image i0.sees);
             };
           }
 
       pub add_done : (s3 : View) → ItemChangedOf s2 s3 item offer.free (λ x. taken x num) →
-          ServesCommand s s3 (command.Reserve customer kind id num) reply.Done (AtSpot customer owner kind id item spot)
+          ServesCommand s s3 (command.Reserve customer kind id num) reply.Done
+          (AtPrice item offer.price (AtSpot customer owner kind id item spot))
       add_done s3 made = record {
         kept = kept_both s s2 s3 (kept_both s s1 s2 t.kept w.kept) made.kept;
         untouched = tt;
@@ -362,11 +363,10 @@ module _ (s : View) (customer owner : ℕ) (kind : Kind) (id item num : ℕ) (of
             let i2 = made.kept.seen image i in
             let i1 = w.kept.seen image i2 in
             let i0 = t.kept.seen image i1 in
-            added_lands (mem s image) (length image) state h customer owner kind id item p.here (none image state h p)
-            (mem s1 image) b start (its_taking image state i1 h)
-            (mem s2 image) num offer.price (its_booking image state i2 i1 h p) (enough_at image i0)
-            (o.price_is image i0) (mem s3 image)
-            (made.changed image i (free_now image state i2 i1 i0 h p));
+            added_lands (mem s image) (length image) state h customer owner kind id item p.there.here
+            (none image state h p.there) (mem s1 image) b start (its_taking image state i1 h)
+            (mem s2 image) num offer.price (its_booking image state i2 i1 h p.there) (enough_at image i0)
+            (mem s3 image) p.price_is (made.changed image i (free_now image state i2 i1 i0 h p.there));
       }
 
       pub add_stays : (s3 : View) → ItemChangedOf s2 s3 item offer.free (λ x. taken x num) →
@@ -380,6 +380,5 @@ module _ (s : View) (customer owner : ℕ) (kind : Kind) (id item num : ℕ) (of
             added_booking (mem s image) (length image) state h customer owner kind id item p.here (none image state h p)
             (mem s1 image) b start (its_taking image state i1 h)
             (mem s2 image) num offer.price (its_booking image state i2 i1 h p) (enough_at image i0)
-            (o.price_is image i0) (mem s3 image)
-            (made.changed image i (free_now image state i2 i1 i0 h p)) state' h';
+            (mem s3 image) (made.changed image i (free_now image state i2 i1 i0 h p)) state' h';
       }

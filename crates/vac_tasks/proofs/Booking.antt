@@ -5,7 +5,9 @@ use Rattle.std.specs.Prelude.{◌≡◌, IfSome, is_some, ◌||◌, if◌then◌
 use Rattle.std.proofs.lemmas.Bool.{cases_lt}
 use Rattle.std.specs.FinMap.{empty}
 use Rattle.tx_memory.specs.View.{View, Sees, RestsOn, Kept}
+use Rattle.std.specs.Option.{option_map}
 use Rattle.vac_model.specs.declared.items.Kind.{Kind}
+use Rattle.vac_model.specs.declared.items.Item.{Item}
 use Rattle.vac_model.specs.declared.items.Kind.TheVariants.{Car, Flight, Room}
 use Rattle.vac_model.specs.declared.commands.Command.TheVariants as command
 use Rattle.vac_model.specs.declared.commands.Refusal.{Refusal}
@@ -16,10 +18,11 @@ use Rattle.vac_model.specs.declared.replies.CustomerOutcome.TheVariants.{Added, 
 use Rattle.vac_model.specs.declared.replies.Pick.{Pick}
 use Rattle.vac_model.specs.declared.tasks.Task.TheVariants as task
 use Rattle.vac_model.specs.State.{State, Place, Bookings, bookings_of, with_bookings, is_full}
-use Rattle.vac_model.specs.Step.{Outcome, step, when_found, refused, done}
+use Rattle.vac_model.specs.Step.{Outcome, step, when_found, refused, done, price_of}
 use Rattle.vac_model.specs.Amounts.{is_id}
 use Rattle.vac_model.specs.Ranges.{is_command}
 use Rattle.vac_model.specs.Run.{joined_of, refusal_of, choice_of, reserve_choice, book_choices, trip_with, trip}
+use Rattle.vac_model.proofs.Balance.{some_same}
 use Rattle.vac_model.proofs.Refused.{step_untouched}
 use Rattle.vac_records.specs.Items.{mem}
 use Rattle.vac_records.specs.Bookings.{place_key}
@@ -30,10 +33,11 @@ use Rattle.vac_records.specs.Steps.{kept_none, kept_both, stood}
 use Rattle.vac_records.specs.Represents.{IsState}
 use Rattle.vac_records.specs.InMemory.{HoldsState, OnlyRead}
 use Rattle.vac_records.proofs.Customers.{customer_found, customer_missing}
+use Rattle.vac_records.proofs.Items.{item_found}
 use Rattle.vac_records.proofs.Single.{one_state}
 use Rattle.vac_tasks.specs.Entries.{item_block, customer_block, LacksCustomer, HasCustomerAt, ItemsStay}
 use Rattle.vac_tasks.specs.CustomerSteps.{RanOn, ItemsStayOn, HasSeat}
-use Rattle.vac_tasks.specs.BookingSteps.{Lands, ServesCommand, served_reply}
+use Rattle.vac_tasks.specs.BookingSteps.{Lands, HasPriceAt, AtPrice, ServesCommand, served_reply}
 use Rattle.vac_tasks.specs.Starts.{MayStart, AtStart, HasStart, LeavesStart}
 use Rattle.vac_tasks.specs.Ran.{IsOutcome, Ran, joining}
 use Rattle.vac_tasks.specs.declared.trip.Choice.{Choice}
@@ -43,10 +47,12 @@ use Rattle.vac_tasks.specs.RanTask.{RanTask}
 use Rattle.vac_tasks.specs.Runs.{Runs, RunsWhere, BlocksStay}
 use Rattle.vac_tasks.specs.Trips.{priced, choice_in, any_chosen, IsKnownItem, AreKnownItems, ChoiceIsAt, ChoicesAreAt}
 use Rattle.vac_tasks.specs.Trips.{first_key, next_key, StartsAt, CanStart, LeavesTurn}
-use Rattle.vac_tasks.specs.Trips.{IsChoiceAt, AtChoices, Chosen, IsOwner, IsOwnerAt, AtPick, asked_to_join, HasJoined}
+use Rattle.vac_tasks.specs.Trips.{IsPricedAt, IsChoiceAt, AtChoices, Chosen, IsOwner, IsOwnerAt, AtPick}
+use Rattle.vac_tasks.specs.Trips.{asked_to_join, HasJoined}
 use Rattle.vac_tasks.proofs.Held.{read_none, state_on, customer_is, customer_none, items_stay_reads}
 use Rattle.vac_tasks.proofs.Held.{customers_stay_reads, item_found_at, item_at_stays, customer_at_stays}
 use Rattle.vac_tasks.proofs.Serving.{outcome_lands, item_lands, customer_lands}
+use Rattle.vac_tasks.proofs.Pricing.{reserve_keeps, new_customer_keeps}
 use Rattle.vac_tasks.proofs.Starting.{start_later}
 use Rattle.vac_tasks.proofs.Staying.{start_head, has_head, lists_one}
 use Rattle.vac_tasks.proofs.Billing.{ran_missing}
@@ -217,21 +223,44 @@ key_before kind id small = omega (arith, small)
 first_before : (kind : Kind) → first_key kind ≤ next_key kind
 first_before kind = omega arith
 
+-- the word of a priced choice
+word_priced : (m : ℕ → ℕ) (n : ℕ) (state : State) (h : IsState m n state) (kind : Kind) (c : Choice) →
+    IsPricedAt h kind c → c.item ≢ 0 → m (c.item + 7) ≡ c.price
+word_priced m n state h kind c at some =
+    let found = item_found m n [] state h.represents kind c.id c.item (record { at = at.block; some = some }) in
+    some_same (m (c.item + 7)) c.price
+    (sym (ap (λ (o : Option Item). option_map (λ item. item.price) o) found) ∙ at.price)
+
+-- a choice that can be booked has its price
+pub has_price : (s : View) (kind : Kind) (c : Choice) → HoldsState s → ChoiceIsAt s kind c →
+    HasPriceAt s c.item c.price
+has_price s kind c held k = record {
+  at = λ image i. (let t = held.under image i in
+      word_priced (mem s image) (length image) t.0 t.1 kind c
+      (record { block = k.at.at image t.0 i t.1; price = k.price image t.0 i t.1 }) k.at.some);
+}
+
 -- where the pick's customer and item stand in the blocks, the command was run
 pick_here : (m : ℕ → ℕ) (n : ℕ) (state : State) (h : IsState m n state) (id : ℕ) (kind : Kind) (block : Option ℕ)
     (o : Option Choice) (b : ℕ) (c : Choice) (link : ℕ) → block ≡ Some b → o ≡ Some c → b ≢ 0 → c.item ≢ 0 →
-    c.id < 2 ^ 32 → AtPick id block kind o link m n state h → AtStart id b kind c.id c.item link m n state h
-pick_here m n state h id kind block o b c link is_b is_c b_some c_some small p = record {
-  here = record {
-    owner_is = subst (λ (x : Option ℕ). IsOwnerAt h id x) is_b p.owner;
-    owner_some = b_some;
-    item_is = subst (λ (x : Option Choice). IsChoiceAt h kind x) is_c p.chosen;
-    item_some = c_some;
-    small = small;
-  };
-  start = start_later (head_of b) link (first_key kind) (place_key (kind, c.id)) (h.represents.parts.lists b)
-      (key_after kind c.id) (subst (λ (x : Option ℕ). StartsAt h x link (first_key kind)) is_b p.start);
-}
+    c.id < 2 ^ 32 → AtPick id block kind o link m n state h →
+    AtPrice c.item c.price (AtStart id b kind c.id c.item link) m n state h
+pick_here m n state h id kind block o b c link is_b is_c b_some c_some small p =
+    let at : IsPricedAt h kind c = subst (λ (x : Option Choice). IsChoiceAt h kind x) is_c p.chosen in
+    record {
+      there = record {
+        here = record {
+          owner_is = subst (λ (x : Option ℕ). IsOwnerAt h id x) is_b p.owner;
+          owner_some = b_some;
+          item_is = at.block;
+          item_some = c_some;
+          small = small;
+        };
+        start = start_later (head_of b) link (first_key kind) (place_key (kind, c.id)) (h.represents.parts.lists b)
+            (key_after kind c.id) (subst (λ (x : Option ℕ). StartsAt h x link (first_key kind)) is_b p.start);
+      };
+      price_is = word_priced m n state h kind c at c_some;
+    }
 
 -- the customer's list is searched for an item of the kind from where it may be searched for the kind
 pub has_later : (s : View) (b link : ℕ) (kind : Kind) (id : ℕ) → HasStart s b link (first_key kind) →
@@ -268,7 +297,8 @@ refusal_back (Some why) = refl
 pub reserved : (s s' : View) (id : ℕ) (kind : Kind) (block : Option ℕ) (o : Option Choice) (b : ℕ) (c : Choice)
     (link : ℕ) (why : Option Refusal) → block ≡ Some b → o ≡ Some c → b ≢ 0 → c.item ≢ 0 → c.id < 2 ^ 32 →
     is_command (command.Reserve id kind c.id 1) ≡ true →
-    ServesCommand s s' (command.Reserve id kind c.id 1) (served_reply why) (AtStart id b kind c.id c.item link) →
+    ServesCommand s s' (command.Reserve id kind c.id 1) (served_reply why)
+    (AtPrice c.item c.price (AtStart id b kind c.id c.item link)) →
     RunsWhere s s' (picks id kind o) (Some (record { id = c.id; price = c.price; refused = why }))
     (AtPick id block kind o link)
 reserved s s' id kind block o b c link why is_b is_c b_some c_some small range v =
@@ -289,7 +319,8 @@ reserved s s' id kind block o b c link why is_b is_c b_some c_some small range v
 
 pub reserved_stays : (s s' : View) (id : ℕ) (kind : Kind) (block : Option ℕ) (o : Option Choice) (b : ℕ) (c : Choice)
     (link : ℕ) (r : Reply) → block ≡ Some b → o ≡ Some c → b ≢ 0 → c.item ≢ 0 → c.id < 2 ^ 32 →
-    ServesCommand s s' (command.Reserve id kind c.id 1) r (AtStart id b kind c.id c.item link) →
+    ServesCommand s s' (command.Reserve id kind c.id 1) r
+    (AtPrice c.item c.price (AtStart id b kind c.id c.item link)) →
     BlocksStay s s' (AtPick id block kind o link)
 reserved_stays s s' id kind block o b c link r is_b is_c b_some c_some small v =
     let lands : (image : List ℕ) (state : State) → Sees s' image → (h : IsState (mem s image) (length image) state) →
@@ -307,7 +338,8 @@ reserved_stays s s' id kind block o b c link r is_b is_c b_some c_some small v =
 -- the next kind may be searched from where the booking left the link
 pub reserved_turn : (s s' : View) (id : ℕ) (kind : Kind) (block : Option ℕ) (o : Option Choice) (b : ℕ) (c : Choice)
     (link link' : ℕ) → block ≡ Some b → o ≡ Some c → b ≢ 0 → c.item ≢ 0 → c.id < 2 ^ 32 →
-    LeavesStart s s' b link' (place_key (kind, c.id) + 1) (AtStart id b kind c.id c.item link) →
+    LeavesStart s s' b link' (place_key (kind, c.id) + 1)
+    (AtPrice c.item c.price (AtStart id b kind c.id c.item link)) →
     LeavesTurn s s' block link' (next_key kind) (AtPick id block kind o link)
 reserved_turn s s' id kind block o b c link link' is_b is_c b_some c_some small v = record {
   room = subst (λ (x : Option ℕ). IfSome x (λ _. link' < s'.size)) (sym is_b) v.room;
@@ -318,12 +350,34 @@ reserved_turn s s' id kind block o b c link link' is_b is_c b_some c_some small 
       (key_before kind c.id small) (v.at image state state' i h e h'));
 }
 
--- what is known of a state's blocks is known of another one's that has them
+-- a part of a task that keeps the prices of items
+abbrev pub KeepsPrices : {A : Type 0} → (State → State × A) → Type 0
+KeepsPrices f = (state : State) (kind : Kind) (id : ℕ) → price_of (f state).0 kind id ≡ price_of state kind id
+
+joins_keep : (id : ℕ) → KeepsPrices (asked_to_join id)
+joins_keep id state kind item = new_customer_keeps state id kind item
+
+pub picks_keep : (id : ℕ) (kind : Kind) (o : Option Choice) → KeepsPrices (picks id kind o)
+picks_keep id kind None state k i = refl
+picks_keep id kind (Some c) state k i = reserve_keeps state id kind c.id 1 k i
+
+-- the prices in the one state that the memory represents afterwards
+prices_after : {A : Type 0} (f : State → State × A) (m : ℕ → ℕ) (n : ℕ) (state state' : State) → KeepsPrices f →
+    IsState m n (f state).0 → IsState m n state' → (kind : Kind) (id : ℕ) →
+    price_of state' kind id ≡ price_of state kind id
+prices_after f m n state state' keeps h h' kind id =
+    ap (λ (x : State). price_of x kind id) (sym (one_state m n [] [] (f state).0 state' h.represents h'.represents))
+    ∙ keeps state kind id
+
+-- what is known of a state's blocks and prices is known of another one's that has them
 choice_moves : {m m' : ℕ → ℕ} {n n' : ℕ} {s s' : State} → (h : IsState m n s) (h' : IsState m' n' s') (kind : Kind)
     (o : Option Choice) → ((kind : Kind) (id : ℕ) → item_block h' kind id ≡ item_block h kind id) →
-    IsChoiceAt h kind o → IsChoiceAt h' kind o
-choice_moves h h' kind None same at = tt
-choice_moves h h' kind (Some c) same at = same kind c.id ∙ at
+    ((kind : Kind) (id : ℕ) → price_of s' kind id ≡ price_of s kind id) → IsChoiceAt h kind o → IsChoiceAt h' kind o
+choice_moves h h' kind None same prices at = tt
+choice_moves h h' kind (Some c) same prices at = record {
+  block = same kind c.id ∙ at.block;
+  price = prices kind c.id ∙ at.price;
+}
 
 owner_moves : {m m' : ℕ → ℕ} {n n' : ℕ} {s s' : State} → (h : IsState m n s) (h' : IsState m' n' s') (id : ℕ)
     (block : Option ℕ) → ((id : ℕ) → customer_block h' id ≡ customer_block h id) → IsOwnerAt h id block →
@@ -348,19 +402,28 @@ choice_at : (s : View) (kind : Kind) (o : Option Choice) → IfSome o (λ c. Cho
     (image : List ℕ) (state : State) → RestsOn s image → (h : IsState (mem s image) (length image) state) →
     IsChoiceAt h kind o
 choice_at s kind None k image state i h = tt
-choice_at s kind (Some c) k image state i h = k.at.at image state i h
+choice_at s kind (Some c) k image state i h = record {
+  block = k.at.at image state i h;
+  price = k.price image state i h;
+}
 
--- and where blocks stay at the size, it stays so
+-- and where blocks and prices stay at the size, it stays so
 choice_stays : (s s' : View) (kind : Kind) (o : Option Choice) → HoldsState s → Kept s s' →
     ((image : List ℕ) (state state' : State) → RestsOn s' image → (h : IsState (mem s image) (length image) state) →
     (h' : IsState (mem s' image) (length image) state') → (kind : Kind) (id : ℕ) →
     item_block h' kind id ≡ item_block h kind id) →
+    ((image : List ℕ) (state state' : State) → RestsOn s' image → IsState (mem s image) (length image) state →
+    IsState (mem s' image) (length image) state' → (kind : Kind) (id : ℕ) →
+    price_of state' kind id ≡ price_of state kind id) →
     IfSome o (λ c. ChoiceIsAt s kind c) → IfSome o (λ c. ChoiceIsAt s' kind c)
-choice_stays s s' kind None held kept stay k = tt
-choice_stays s s' kind (Some c) held kept stay k = record {
+choice_stays s s' kind None held kept stay prices k = tt
+choice_stays s s' kind (Some c) held kept stay prices k = record {
   id = k.id;
   at = item_at_stays s s' kind c.id c.item held kept (λ image state state' i h h'. stay image state state' i h h' kind
       c.id) k.at;
+  price = λ image state' i h'. (let i0 = stood kept image i in
+      let t = held.under image i0 in
+      prices image t.0 state' i t.1 h' kind c.id ∙ k.price image t.0 i0 t.1);
 }
 
 owner_stays : (s s' : View) (id : ℕ) (block : Option ℕ) → HoldsState s → Kept s s' →
@@ -409,6 +472,8 @@ ready_joined s s' id owner cs link key held known j is =
       known = record {
         known = λ kind. choice_stays s s' kind (choice_in cs kind) held j.runs.kept
             (λ image state state' i h h' kind id. j.items.stay image state state' i.sees h h' kind id)
+            (λ image state state' i h h' kind id'. prices_after (asked_to_join id) (mem s' image) (length image)
+            state state' (joins_keep id) (j.runs.state image state i.sees h) h' kind id')
             (known.known kind);
       };
       start = starts_at_head s' id owner.block link key seated is;
@@ -458,9 +523,9 @@ pub ready_next : {A : Type 0} (s s' : View) (id : ℕ) (block : Option ℕ) (cs 
     (f : State → State × A) (a : A) → Ready s id block cs link (first_key kind) →
     RunsWhere s s' f a (AtPick id block kind (choice_in cs kind) link) →
     BlocksStay s s' (AtPick id block kind (choice_in cs kind) link) →
-    LeavesTurn s s' block link' (next_key kind) (AtPick id block kind (choice_in cs kind) link) →
+    LeavesTurn s s' block link' (next_key kind) (AtPick id block kind (choice_in cs kind) link) → KeepsPrices f →
     Ready s' id block cs link' (next_key kind)
-ready_next s s' id block cs kind link link' f a r runs stays turn = record {
+ready_next s s' id block cs kind link link' f a r runs stays turn keeps = record {
   state = record {
     inside = omega (arith, r.state.inside, runs.kept.size);
     small = omega (arith, r.state.small, runs.kept.size);
@@ -474,7 +539,10 @@ ready_next s s' id block cs kind link link' f a r runs stays turn = record {
   known = record {
     known = λ k. choice_stays s s' k (choice_in cs k) r.state runs.kept
         (λ image state state' i h h' kind' id'. stays.items image state state' i.sees h
-        (pick_at s id block cs kind link r image state (stood runs.kept image i) h) h' kind' id') (r.known.known k);
+        (pick_at s id block cs kind link r image state (stood runs.kept image i) h) h' kind' id')
+        (λ image state state' i h h' kind' id'. prices_after f (mem s' image) (length image) state state' keeps
+        (runs.state image state i.sees h (pick_at s id block cs kind link r image state (stood runs.kept image i) h))
+        h' kind' id') (r.known.known k);
   };
   start = turn_there s s' block link' (next_key kind) (AtPick id block kind (choice_in cs kind) link) r.state runs.kept
       (pick_at s id block cs kind link r) turn;
@@ -484,7 +552,11 @@ ready_next s s' id block cs kind link link' f a r runs stays turn = record {
 choice_found : (s : View) (kind : Kind) (o : Option Choice) → IfSome o (λ c. IsKnownItem s kind c) →
     IfSome o (λ c. ChoiceIsAt s kind c)
 choice_found s kind None k = tt
-choice_found s kind (Some c) k = record { id = k.id; at = item_found_at s kind c.id c.item k.at }
+choice_found s kind (Some c) k = record {
+  id = k.id;
+  at = item_found_at s kind c.id c.item k.at;
+  price = λ image state i h. k.price image state i.sees h;
+}
 
 pub choices_found : (s : View) (cs : Choices) → AreKnownItems s cs → ChoicesAreAt s cs
 choices_found s cs k = record { known = λ kind. choice_found s kind (choice_in cs kind) (k.known kind) }
@@ -520,11 +592,11 @@ module _ (s s1 s2 s3 s4 : View) (id : ℕ) (owner : Owner) (cs : Choices) (l1 l2
       let h1 = j.runs.state image state i1 h in
       let seat1 = j.seat image state _ i1 h h1 in
       let car_at : IsChoiceAt h1 Car cs.car = choice_moves h h1 Car cs.car (j.items.stay image state _ i1 h h1)
-      (p.at Car) in
+      (joins_keep id state) (p.at Car) in
       let flight_at : IsChoiceAt h1 Flight cs.flight = choice_moves h h1 Flight cs.flight
-      (j.items.stay image state _ i1 h h1) (p.at Flight) in
+      (j.items.stay image state _ i1 h h1) (joins_keep id state) (p.at Flight) in
       let room_at : IsChoiceAt h1 Room cs.room = choice_moves h h1 Room cs.room (j.items.stay image state _ i1 h h1)
-      (p.at Room) in
+      (joins_keep id state) (p.at Room) in
       let p1 : AtPick id owner.block Car cs.car l1 (mem s1 image) (length image) _ h1 = record {
         owner = seat1;
         chosen = car_at;
@@ -536,7 +608,7 @@ module _ (s s1 s2 s3 s4 : View) (id : ℕ) (owner : Owner) (cs : Choices) (l1 l2
       let p2 : AtPick id owner.block Flight cs.flight l2 (mem s2 image) (length image) _ h2 =
       record {
         owner = owner_moves h1 h2 id owner.block customers2 seat1;
-        chosen = choice_moves h1 h2 Flight cs.flight items2 flight_at;
+        chosen = choice_moves h1 h2 Flight cs.flight items2 (picks_keep id Car cs.car _) flight_at;
         start = ta.at image _ _ i2 h1 p1 h2;
       } in
       let h3 = b.state image _ i3 h2 p2 in
@@ -545,7 +617,8 @@ module _ (s s1 s2 s3 s4 : View) (id : ℕ) (owner : Owner) (cs : Choices) (l1 l2
       let p3 : AtPick id owner.block Room cs.room l3 (mem s3 image) (length image) _ h3 =
       record {
         owner = owner_moves h2 h3 id owner.block customers3 p2.owner;
-        chosen = choice_moves h2 h3 Room cs.room items3 (choice_moves h1 h2 Room cs.room items2 room_at);
+        chosen = choice_moves h2 h3 Room cs.room items3 (picks_keep id Flight cs.flight _)
+            (choice_moves h1 h2 Room cs.room items2 (picks_keep id Car cs.car _) room_at);
         start = tb.at image _ _ i3 h2 p2 h3;
       } in
       let e = j.runs.answer image state i1 h in
@@ -598,7 +671,10 @@ known_at : (s : View) (kind : Kind) (o : Option Choice) → IfSome o (λ c. IsKn
     (image : List ℕ) (state : State) → Sees s image → (h : IsState (mem s image) (length image) state) →
     IsChoiceAt h kind o
 known_at s kind None k image state i h = tt
-known_at s kind (Some c) k image state i h = k.at.at image state i h
+known_at s kind (Some c) k image state i h = record {
+  block = k.at.at image state i h;
+  price = k.price image state i h;
+}
 
 pub tripped : (s s1 s2 : View) (id : ℕ) (asks : List Place) (cs : Choices) (r : Reply) → Chosen s s1 asks cs →
     any_chosen cs ≡ true →

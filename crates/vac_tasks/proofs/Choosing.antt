@@ -16,7 +16,7 @@ use Rattle.vac_tasks.specs.Entries.{LacksItem, HasItemAt}
 use Rattle.vac_tasks.specs.declared.trip.Choice.{Choice}
 use Rattle.vac_tasks.specs.declared.trip.Choices.{Choices}
 use Rattle.vac_tasks.specs.Trips.{priced, choice_in, dearer_of, with_found, IsKnownItem, LookedUp, Chosen}
-use Rattle.vac_tasks.proofs.Held.{read_both, state_on, item_at_on, item_is, item_none}
+use Rattle.vac_tasks.proofs.Held.{read_both, state_on, state_back, item_at_on, item_is, item_none}
 
 -- a missing item
 pub looked_none : (s s' : View) (kind : Kind) (id : ℕ) → OnlyRead s s' → LacksItem s' kind id →
@@ -45,7 +45,15 @@ looked_up s s1 s2 kind c id reads at loaded = record {
       ap (λ (o : Option Item). option_map (λ item. item.price) o) found ∙ ap (λ (p : ℕ). Some p)
       (loaded.answer image i);
   asked = refl;
-  known = record { id = id; at = item_at_on s1 s2 kind c.id c.item (only_loaded s1 s2 (c.item + 7) c.price loaded) at };
+  known = record {
+    id = id;
+    at = item_at_on s1 s2 kind c.id c.item (only_loaded s1 s2 (c.item + 7) c.price loaded) at;
+    price = λ image state i h.
+        let found = item_is s1 kind c.id c.item at image state (loaded.kept.seen image i)
+        (state_back s1 s2 image state loaded.writes h) in
+        ap (λ (o : Option Item). option_map (λ item. item.price) o) found ∙ ap (λ (p : ℕ). Some p)
+        (loaded.answer image i);
+  };
 }
 
 -- the dearer of two, as the definition sees them
@@ -111,7 +119,12 @@ choice_more state k asks ask = fold_more (chooses state k) None asks ask
 known_on : (s s' : View) (kind : Kind) (o : Option Choice) → OnlyRead s s' → IfSome o (λ c. IsKnownItem s kind c) →
     IfSome o (λ c. IsKnownItem s' kind c)
 known_on s s' kind None reads h = tt
-known_on s s' kind (Some c) reads h = record { id = h.id; at = item_at_on s s' kind c.id c.item reads h.at }
+known_on s s' kind (Some c) reads h = record {
+  id = h.id;
+  at = item_at_on s s' kind c.id c.item reads h.at;
+  price = λ image state i h'.
+      h.price image state (reads.kept.seen image i) (state_back s s' image state reads.writes h');
+}
 
 -- nothing is chosen
 abbrev nothing : Choices

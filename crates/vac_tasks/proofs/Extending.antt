@@ -29,7 +29,7 @@ use Rattle.vac_records.proofs.Items.{item_replaced}
 use Rattle.vac_records.proofs.Booked.{booking_replaced}
 use Rattle.vac_tasks.specs.declared.bookings.Offer.{Offer}
 use Rattle.vac_tasks.specs.Entries.{ItemIsAt, CustomerIsAt}
-use Rattle.vac_tasks.specs.BookingSteps.{booking_block, Here, AtBooking, HasBookingAt, IsOffered, Lands}
+use Rattle.vac_tasks.specs.BookingSteps.{booking_block, Here, AtBooking, AtPrice, HasBookingAt, IsOffered, Lands}
 use Rattle.vac_tasks.specs.BookingSteps.{ServesCommand}
 use Rattle.vac_tasks.specs.Starts.{LeavesBooking}
 use Rattle.vac_tasks.proofs.Listed.{list_of_item, list_of_booking, list_same, customer_still, list_after}
@@ -44,7 +44,7 @@ pub price_small : (s : View) (kind : Kind) (id item num : ℕ) (offer : Offer) �
 price_small s kind id item num offer held f o ws = some_le offer.price 1000000 ws (λ w.
     let t = held.under w.0 w.1 in
     let r = t.1.small.balanced.items kind id (item_in (mem s w.0) item) (item_stood s kind id item f w.0 t.0 w.1 t.1) in
-    omega (arith, r.price_range, o.price_is w.0 w.1.sees))
+    omega (arith, r.price_range, o.price.at w.0 w.1))
 
 pub sum_small : (num price : ℕ) → num < 2 ^ 32 → price ≤ 1000000 → num * price < 2 ^ 64
 sum_small num price few small =
@@ -81,7 +81,7 @@ module _ (m : ℕ → ℕ) (n : ℕ) (s : State) (h : IsState m n s) (customer o
       let t : nat_lt unit_limit ((booking_in m b).units + num) ≡ true = grind (arith, nat_tests) in
       rw ((owned m n s h customer owner kind id item e).there, there, f, found, t) refl
 
-  module _ (m2 : ℕ → ℕ) (num price : ℕ) (free : num ≤ m (item + 5)) (price_is : m (item + 7) ≡ price)
+  module _ (m2 : ℕ → ℕ) (num price : ℕ) (free : num ≤ m (item + 5))
       (now : IsBookingNow m m2 b (extended (booking_in m b) num price)) where
     abbrev more : State
     more = with_bookings s customer (insert had (kind, id) (booking_in m2 b))
@@ -106,10 +106,10 @@ module _ (m : ℕ → ℕ) (n : ℕ) (s : State) (h : IsState m n s) (customer o
     pub used_fits : m2 (item + 4) + num < 2 ^ 64
     used_fits = omega (arith, counts_fit m n s h kind id item num there free, ap (λ (x : Item). x.used) item_same)
 
-    pub extended_lands : (m3 : ℕ → ℕ) → m (b + 4) + num ≤ unit_limit →
+    pub extended_lands : (m3 : ℕ → ℕ) → m (item + 7) ≡ price → m (b + 4) + num ≤ unit_limit →
         IsItemNow m2 m3 item (taken (item_in m2 item) num) →
         Lands h m3 (command.Reserve customer kind id num) reply.Done
-    extended_lands m3 few made =
+    extended_lands m3 price_is few made =
         let after = item_replaced m2 m3 n [] more kind id item grown.after item_at made.others in
         let f : nat_lt (item_in m item).free num ≡ false = grind (arith, nat_tests) in
         let t : nat_lt unit_limit ((booking_in m b).units + num) ≡ false = grind (arith, nat_tests) in
@@ -154,10 +154,11 @@ module _ (s : View) (customer owner : ℕ) (kind : Kind) (id item num : ℕ) (of
 
   module _ (s1 : View) (v : ℕ) (l : Loaded s s1 (b + 4) v) where
     pub too_many : 10000 < v + num → ServesCommand s s1 (command.Reserve customer kind id num) (reply.No UnitLimit)
-        (AtBooking customer owner kind id item b)
+        (AtPrice item offer.price (AtBooking customer owner kind id item b))
     too_many over = reads_serve s s1 (command.Reserve customer kind id num) (reply.No UnitLimit)
-        (AtBooking customer owner kind id item b) (record { kept = l.kept; writes = l.writes }) (λ image state i h p.
-        over_limit (mem s image) (length image) state h customer owner kind id item b p.here p.is b_some
+        (AtPrice item offer.price (AtBooking customer owner kind id item b))
+        (record { kept = l.kept; writes = l.writes }) (λ image state i h p.
+        over_limit (mem s image) (length image) state h customer owner kind id item b p.there.here p.there.is b_some
         num (enough_at image (l.kept.seen image i)) (omega (arith, over, l.answer image i)))
 
     module _ (held : HoldsState s) (c : CustomerIsAt s customer owner) (f : ItemIsAt s kind id item)
@@ -203,8 +204,7 @@ module _ (s : View) (customer owner : ℕ) (kind : Kind) (id item num : ℕ) (of
           mem s2 image (item + 5) ≡ offer.free
       free_now image state i i0 h p =
           free_same (mem s image) (length image) state h customer owner kind id item b p.here p.is b_some
-          (mem s2 image) num offer.price (enough_at image i0) (o.price_is image i0) (its_change image i) ∙
-          o.free_is image i0
+          (mem s2 image) num offer.price (enough_at image i0) (its_change image i) ∙ o.free_is image i0
 
       pub can_make : HoldsState s → CustomerIsAt s customer owner → ItemIsAt s kind id item →
           HasBookingAt s owner (kind, id) b → id < 2 ^ 32 → CanMakeOf s2 item num offer.free
@@ -220,13 +220,13 @@ module _ (s : View) (customer owner : ℕ) (kind : Kind) (id item num : ℕ) (of
               let t = held.under image i0 in
               let p = at_size held c f g small image t.0 i0 t.1 in
               used_fits (mem s image) (length image) t.0 t.1 customer owner kind id item b p.here p.is b_some
-              (mem s2 image) num offer.price (enough_at image i0.sees) (o.price_is image i0.sees)
-              (its_change image i.sees);
+              (mem s2 image) num offer.price (enough_at image i0.sees) (its_change image i.sees);
         };
       }
 
       pub extend_done : (s3 : View) → v + num ≤ 10000 → ItemChangedOf s2 s3 item offer.free (λ x. taken x num) →
-          ServesCommand s s3 (command.Reserve customer kind id num) reply.Done (AtBooking customer owner kind id item b)
+          ServesCommand s s3 (command.Reserve customer kind id num) reply.Done
+          (AtPrice item offer.price (AtBooking customer owner kind id item b))
       extend_done s3 under made = record {
         kept = kept_both s s2 s3 (kept_both s s1 s2 l.kept w.kept) made.kept;
         untouched = tt;
@@ -235,10 +235,10 @@ module _ (s : View) (customer owner : ℕ) (kind : Kind) (id item num : ℕ) (of
             let i2 = made.kept.seen image i in
             let i1 = w.kept.seen image i2 in
             let i0 = l.kept.seen image i1 in
-            extended_lands (mem s image) (length image) state h customer owner kind id item b p.here p.is b_some
-            (mem s2 image) num offer.price (enough_at image i0) (o.price_is image i0) (its_change image i2)
-            (mem s3 image) (omega (arith, under, l.answer image i1))
-            (made.changed image i (free_now image state i2 i0 h p));
+            extended_lands (mem s image) (length image) state h customer owner kind id item b p.there.here p.there.is
+            b_some (mem s2 image) num offer.price (enough_at image i0) (its_change image i2)
+            (mem s3 image) p.price_is (omega (arith, under, l.answer image i1))
+            (made.changed image i (free_now image state i2 i0 h p.there));
       }
 
       pub extend_stays : (s3 : View) → ItemChangedOf s2 s3 item offer.free (λ x. taken x num) → b + 8 ≤ s.size →
@@ -250,6 +250,6 @@ module _ (s : View) (customer owner : ℕ) (kind : Kind) (id item num : ℕ) (of
             let i1 = w.kept.seen image i2 in
             let i0 = l.kept.seen image i1 in
             extended_booking (mem s image) (length image) state h customer owner kind id item b p.here p.is b_some
-            (mem s2 image) num offer.price (enough_at image i0) (o.price_is image i0) (its_change image i2)
+            (mem s2 image) num offer.price (enough_at image i0) (its_change image i2)
             (mem s3 image) (made.changed image i (free_now image state i2 i0 h p)) state' h';
       }

@@ -1,5 +1,6 @@
 pub mod Parts
 pub mod Choosing
+pub mod Pricing
 pub mod Booking
 pub mod Held
 pub mod Results

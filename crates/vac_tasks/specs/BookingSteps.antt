@@ -75,11 +75,23 @@ pub record HasSpot (s : View) (owner : ℕ) (place : Place) (spot : Spot) : Type
       (h : IsState (mem s image) (length image) state) →
       SpotAt (mem s image) (head_of owner) (place_key place) spot (h.represents.parts.lists owner)
 
--- under each possible image the item has this number of free units, at least num, and this price
+-- under each possible image of the memory's size, the item in block `item` has this price
+pub record HasPriceAt (s : View) (item price : ℕ) : Type 0 where
+  pub at : (image : List ℕ) → RestsOn s image → mem s image (item + 7) ≡ price
+
+-- the property P holds, and the item in block `item` has this price
+pub record AtPrice (item price : ℕ)
+    (P : (m : ℕ → ℕ) (n : ℕ) (state : State) → IsState m n state → Type 0)
+    (m : ℕ → ℕ) (n : ℕ) (s : State) (h : IsState m n s) : Type 0 where
+  pub there : P m n s h
+  pub price_is : m (item + 7) ≡ price
+
+-- under each possible image the item has this number of free units, at least num, and, if the
+-- image has the memory's size, this price
 pub record IsOffered (s : View) (item num : ℕ) (offer : Offer) : Type 0 where
   pub enough : num ≤ offer.free
   pub free_is : (image : List ℕ) → Sees s image → mem s image (item + 5) ≡ offer.free
-  pub price_is : (image : List ℕ) → Sees s image → mem s image (item + 7) ≡ offer.price
+  pub price : HasPriceAt s item offer.price
 
 -- the command that books units of the item for the customer
 abbrev pub reserve_of : CustomerAt → ItemAt → ℕ → Command

@@ -1,7 +1,7 @@
 -- The effects of the parts of a trip on a memory that holds a state, under every possible image.
 use Rattle.std.specs.Prelude.{◌≡◌, ℕ, ◌+◌, ◌^◌, ◌<◌, List, Option, Some, None, IfSome, MatchOption, length, nat_lt, ◌||◌, Bool, is_some, if◌then◌else◌, true}
 use Rattle.std.specs.Option.{option_map}
-use Rattle.tx_memory.specs.View.{View, Sees}
+use Rattle.tx_memory.specs.View.{View, Sees, RestsOn}
 use Rattle.vac_model.specs.declared.items.Kind.{Kind}
 use Rattle.vac_model.specs.declared.items.Kind.TheVariants.{Car, Flight, Room}
 use Rattle.vac_model.specs.declared.commands.Command.TheVariants as command
@@ -51,32 +51,43 @@ with_found cs Car found = record cs { car = dearer_of cs.car found }
 with_found cs Flight found = record cs { flight = dearer_of cs.flight found }
 with_found cs Room found = record cs { room = dearer_of cs.room found }
 
--- the choice is an item of this kind, in the recorded block
+-- the choice is an item of this kind, in the recorded block and at the recorded price
 pub record IsKnownItem (s : View) (kind : Kind) (c : Choice) : Type 0 where
   pub id : is_id c.id ≡ true
   pub at : HasItemAt s kind c.id c.item
+  pub price : (image : List ℕ) (state : State) → Sees s image →
+      IsState (mem s image) (length image) state → price_of state kind c.id ≡ Some c.price
 
--- each chosen item is of its kind, in the recorded block
+-- each chosen item is of its kind, in the recorded block and at the recorded price
 pub record AreKnownItems (s : View) (cs : Choices) : Type 0 where
   pub known : (kind : Kind) → IfSome (choice_in cs kind) (λ c. IsKnownItem s kind c)
 
 -- under each possible image of the memory's size the choice is an item of this kind, in the
--- recorded block (a booking requires this)
+-- recorded block and at the recorded price (a booking requires this)
 pub record ChoiceIsAt (s : View) (kind : Kind) (c : Choice) : Type 0 where
   pub id : is_id c.id ≡ true
   pub at : ItemIsAt s kind c.id c.item
+  pub price : (image : List ℕ) (state : State) → RestsOn s image →
+      IsState (mem s image) (length image) state → price_of state kind c.id ≡ Some c.price
 
 -- under each possible image of the memory's size each chosen item is of its kind, in the recorded
--- block
+-- block and at the recorded price
 pub record ChoicesAreAt (s : View) (cs : Choices) : Type 0 where
   pub known : (kind : Kind) → IfSome (choice_in cs kind) (λ c. ChoiceIsAt s kind c)
 
--- the chosen item of a kind is in the recorded block
+-- the choice is an item of this kind, in the recorded block and at the recorded price, in one image
+-- that represents a state
+pub record IsPricedAt {m : ℕ → ℕ} {n : ℕ} {s : State} (h : IsState m n s) (kind : Kind)
+    (c : Choice) : Type 0 where
+  pub block : item_block h kind c.id ≡ c.item
+  pub price : price_of s kind c.id ≡ Some c.price
+
+-- the chosen item of a kind, if any, is in the recorded block and at the recorded price
 abbrev pub IsChoiceAt : {m : ℕ → ℕ} {n : ℕ} {s : State} → IsState m n s → Kind → Option Choice →
     Type 0
-IsChoiceAt h kind choice = IfSome choice (λ c. item_block h kind c.id ≡ c.item)
+IsChoiceAt h kind choice = IfSome choice (λ c. IsPricedAt h kind c)
 
--- all chosen items are in the recorded blocks
+-- all chosen items are in the recorded blocks and at the recorded prices
 pub record AtChoices (cs : Choices) (m : ℕ → ℕ) (n : ℕ) (s : State) (h : IsState m n s) : Type 0
   where
     pub at : (kind : Kind) → IsChoiceAt h kind (choice_in cs kind)
@@ -123,8 +134,8 @@ abbrev pub StartsAt : {m : ℕ → ℕ} {n : ℕ} {s : State} → IsState m n s 
 StartsAt h block link key =
     IfSome block (λ b. MayStart (head_of b) link key (h.represents.parts.lists b))
 
--- the customer and the chosen item of a kind are in these blocks, and a search for the customer's
--- bookings of the kind may start at the link
+-- the customer and the chosen item of a kind are in these blocks, the item at its recorded price,
+-- and a search for the customer's bookings of the kind may start at the link
 pub record AtPick (id : ℕ) (block : Option ℕ) (kind : Kind) (choice : Option Choice) (link : ℕ)
     (m : ℕ → ℕ) (n : ℕ) (s : State) (h : IsState m n s) : Type 0 where
   pub owner : IsOwnerAt h id block

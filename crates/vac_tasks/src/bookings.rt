@@ -6,7 +6,7 @@ ghost use Rattle.vac_records.specs.Bookings.{place_key};
 ghost use Rattle.vac_records.specs.InMemory.{HoldsState};
 ghost use Rattle.vac_tasks.specs.Entries.{ItemIsAt, CustomerIsAt};
 ghost use Rattle.vac_tasks.specs.Ran.{CanRun, Ran};
-ghost use Rattle.vac_tasks.specs.BookingSteps.{AtBlocks, AtBooking, AtSpot, HasSpot, ServesCommand, served_reply};
+ghost use Rattle.vac_tasks.specs.BookingSteps.{AtBlocks, AtBooking, AtSpot, AtPrice, HasSpot, HasPriceAt, ServesCommand, served_reply};
 ghost use Rattle.vac_tasks.specs.Starts.{AtStart, HasStart, LeavesStart, LeavesBooking, adding};
 ghost use Rattle.vac_tasks.specs.BookingSteps.{CanServe, CanReserve, CanReserveMore, reserve_of, cancel_of};
 
@@ -39,6 +39,15 @@ pub struct ItemAt {
     pub id: u32,
     /// The block of the item.
     pub item: Block,
+}
+
+/// Units to book, each at this price.
+#[derive(Clone, Copy)]
+pub struct Units {
+    /// Number of units to book.
+    pub num: u32,
+    /// Price of one unit.
+    pub price: u64,
 }
 
 /// The number of units that are asked for, with the free units and the price of the item.
@@ -111,41 +120,45 @@ pub fn reserve_at<M: TxMem>(
         (AtBlocks who.customer who.owner what.kind what.id what.item)) }
 {
     let mut from = who.owner.word(BOOKINGS);
-    let refused = reserve_from(memory, who, what, num, start, &mut from)?;
+    let price = price_at(memory, what.item)?;
+    let units = Units { num, price };
+    let refused = reserve_from(memory, who, what, units, start, &mut from)?;
     Ok(refused)
 }
 
-/// Books units as `reserve_at` does. The customer's list is searched from the link `from` on, and
-/// not from its head: no booking of this item or of a later item stands before that link. The call
-/// leaves in `from` a link before which no booking of a later item stands. A caller that books
-/// items in ascending order of kind and id thus walks the list once.
+/// Books units as `reserve_at` does, at the item's present price, which the caller has read. The
+/// customer's list is searched from the link `from` on, and not from its head: no booking of this
+/// item or of a later item stands before that link. The call leaves in `from` a link before which
+/// no booking of a later item stands. A caller that books items in ascending order of kind and id
+/// thus walks the list once.
 pub fn reserve_from<M: TxMem>(
     memory: &mut M,
     who: CustomerAt,
     what: ItemAt,
-    num: u32,
+    units: Units,
     start: FreeList,
     from: &mut Addr,
 ) -> Result<Option<Refusal>, M::Stop>
     requires state { HoldsState (M.view memory.old) }
     requires customer { CustomerIsAt (M.view memory.old) who.customer who.owner }
     requires item { ItemIsAt (M.view memory.old) what.kind what.id what.item }
-    requires range { is_command (Command.Reserve who.customer what.kind what.id num) ≡ true }
+    requires range { is_command (Command.Reserve who.customer what.kind what.id units.num) ≡ true }
+    requires price { HasPriceAt (M.view memory.old) what.item units.price }
     requires from { HasStart (M.view memory.old) who.owner from.old.0
         (place_key (what.kind, what.id)) }
     ensures origin { M.origin memory.new ≡ M.origin memory.old }
     ensures answer { IfOk result (λ refused. ServesCommand (M.view memory.old) (M.view memory.new)
-        (Command.Reserve who.customer what.kind what.id num) (served_reply refused)
-        (AtStart who.customer who.owner what.kind what.id what.item from.old.0)) }
+        (reserve_of who what units.num) (served_reply refused) (AtPrice what.item units.price
+        (AtStart who.customer who.owner what.kind what.id what.item from.old.0))) }
     ensures from { IfOk result (λ _. LeavesStart (M.view memory.old) (M.view memory.new)
-        who.owner from.new.0 (place_key (what.kind, what.id) + 1)
-        (AtStart who.customer who.owner what.kind what.id what.item from.old.0)) }
+        who.owner from.new.0 (place_key (what.kind, what.id) + 1) (AtPrice what.item units.price
+        (AtStart who.customer who.owner what.kind what.id what.item from.old.0))) }
 {
     let free = free_at(memory, what.item)?;
+    let Units { num, price } = units;
     if free < num as u64 {
         return Ok(Some(Refusal::SoldOut));
     }
-    let price = price_at(memory, what.item)?;
     let offer = Offer { num, free, price };
     let spot = seek(memory, *from, key_of(what.kind, what.id))?;
     match spot.entry {
@@ -177,8 +190,8 @@ fn extend_booking<M: TxMem>(
     requires { CanReserveMore (M.view memory.old) who what offer booking }
     ensures origin { M.origin memory.new ≡ M.origin memory.old }
     ensures answer { IfOk result (λ refused. ServesCommand (M.view memory.old) (M.view memory.new)
-        (reserve_of who what offer.num) (served_reply refused)
-        (AtBooking who.customer who.owner what.kind what.id what.item booking)) }
+        (reserve_of who what offer.num) (served_reply refused) (AtPrice what.item offer.price
+        (AtBooking who.customer who.owner what.kind what.id what.item booking))) }
     ensures block { IfOk result (λ _. LeavesBooking (M.view memory.old) (M.view memory.new)
         who.owner (what.kind, what.id) booking
         (AtBooking who.customer who.owner what.kind what.id what.item booking)) }
@@ -207,8 +220,8 @@ fn add_booking<M: TxMem>(
     requires spot { HasSpot (M.view memory.old) who.owner (what.kind, what.id) spot }
     ensures origin { M.origin memory.new ≡ M.origin memory.old }
     ensures answer { IfOk result (λ added. ServesCommand (M.view memory.old) (M.view memory.new)
-        (reserve_of who what offer.num) (adding added)
-        (AtSpot who.customer who.owner what.kind what.id what.item spot)) }
+        (reserve_of who what offer.num) (adding added) (AtPrice what.item offer.price
+        (AtSpot who.customer who.owner what.kind what.id what.item spot))) }
     ensures block { IfOk result (λ added. IfSome added (λ b. LeavesBooking (M.view memory.old)
         (M.view memory.new) who.owner (what.kind, what.id) b
         (AtSpot who.customer who.owner what.kind what.id what.item spot))) }

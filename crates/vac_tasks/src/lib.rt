@@ -22,7 +22,7 @@ mod tasks;
 mod trip;
 mod update;
 
-pub use bookings::{CustomerAt, ItemAt, cancel, reserve, reserve_at, reserve_from};
+pub use bookings::{CustomerAt, ItemAt, Units, cancel, reserve, reserve_at, reserve_from};
 pub use customers::{add_customer, bill, bill_at, drop_customer, drop_customer_at, new_customer};
 pub use find::{find_customer, find_item};
 pub use heap::Heap;

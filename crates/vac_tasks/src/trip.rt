@@ -13,7 +13,7 @@ ghost use Rattle.vac_tasks.specs.Trips.{priced, any_chosen, dearer_of, with_foun
 ghost use Rattle.vac_tasks.specs.Trips.{first_key, next_key, CanStart, LeavesTurn};
 ghost use Rattle.vac_tasks.specs.Trips.{ChoiceIsAt, ChoicesAreAt, AtPick, AtChoices, LookedUp, Chosen, IsOwner, HasJoined};
 
-use crate::bookings::{CustomerAt, ItemAt, reserve_from};
+use crate::bookings::{CustomerAt, ItemAt, Units, reserve_from};
 use crate::customers::add_customer;
 use crate::find::{find_customer, find_item};
 use tx_alloc::{Block, FreeList};
@@ -208,7 +208,11 @@ fn reserve_choice<M: TxMem>(
         id: chosen.id,
         item: chosen.item,
     };
-    let refused = reserve_from(memory, customer, what, 1, start, from)?;
+    let units = Units {
+        num: 1,
+        price: chosen.price,
+    };
+    let refused = reserve_from(memory, customer, what, units, start, from)?;
     Ok(Some(Pick {
         id: chosen.id,
         price: chosen.price,

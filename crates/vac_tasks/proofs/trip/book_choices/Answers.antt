@@ -1,6 +1,6 @@
 use Rattle.vac_model.specs.declared.items.Kind.TheVariants.{Car, Flight, Room}
 use Rattle.vac_tasks.specs.Trips.{first_key}
-use Rattle.vac_tasks.proofs.Booking.{block_fits, ready_joined, ready_next, booked}
+use Rattle.vac_tasks.proofs.Booking.{block_fits, picks_keep, ready_joined, ready_next, booked}
 use Rattle.vac_tasks.proofs.trip.book_choices.Goals as goal
 
 pub list_head-from-requires : goal.list_head-from-requires
@@ -55,7 +55,8 @@ reserve_choice-requires-2-clause-state g c =
     c.requires.state c.requires.known
     c.in_ok-owner.ensures.answer c.list_head-from.ensures in
     let car = c.in_ok-car.ensures in
-    let ready2 = ready_next _ _ customer owner.block choices Car _ _ _ _ ready car.answer car.blocks car.from in
+    let ready2 = ready_next _ _ customer owner.block choices Car _ _ _ _ ready car.answer car.blocks car.from
+    (picks_keep customer Car choices.car) in
     ready2.state
 
 pub reserve_choice-requires-2-clause-owner : goal.reserve_choice-requires-2-clause-owner
@@ -67,7 +68,8 @@ reserve_choice-requires-2-clause-owner g c =
     c.requires.state c.requires.known
     c.in_ok-owner.ensures.answer c.list_head-from.ensures in
     let car = c.in_ok-car.ensures in
-    let ready2 = ready_next _ _ customer owner.block choices Car _ _ _ _ ready car.answer car.blocks car.from in
+    let ready2 = ready_next _ _ customer owner.block choices Car _ _ _ _ ready car.answer car.blocks car.from
+    (picks_keep customer Car choices.car) in
     ready2.owner
 
 pub reserve_choice-requires-2-clause-known : goal.reserve_choice-requires-2-clause-known
@@ -79,7 +81,8 @@ reserve_choice-requires-2-clause-known g c =
     c.requires.state c.requires.known
     c.in_ok-owner.ensures.answer c.list_head-from.ensures in
     let car = c.in_ok-car.ensures in
-    let ready2 = ready_next _ _ customer owner.block choices Car _ _ _ _ ready car.answer car.blocks car.from in
+    let ready2 = ready_next _ _ customer owner.block choices Car _ _ _ _ ready car.answer car.blocks car.from
+    (picks_keep customer Car choices.car) in
     ready2.known.known Flight
 
 pub reserve_choice-requires-2-clause-from : goal.reserve_choice-requires-2-clause-from
@@ -91,7 +94,8 @@ reserve_choice-requires-2-clause-from g c =
     c.requires.state c.requires.known
     c.in_ok-owner.ensures.answer c.list_head-from.ensures in
     let car = c.in_ok-car.ensures in
-    let ready2 = ready_next _ _ customer owner.block choices Car _ _ _ _ ready car.answer car.blocks car.from in
+    let ready2 = ready_next _ _ customer owner.block choices Car _ _ _ _ ready car.answer car.blocks car.from
+    (picks_keep customer Car choices.car) in
     ready2.start
 
 pub reserve_choice-requires-3-clause-state : goal.reserve_choice-requires-3-clause-state
@@ -103,10 +107,11 @@ reserve_choice-requires-3-clause-state g c =
     c.requires.state c.requires.known
     c.in_ok-owner.ensures.answer c.list_head-from.ensures in
     let car = c.in_ok-car.ensures in
-    let ready2 = ready_next _ _ customer owner.block choices Car _ _ _ _ ready car.answer car.blocks car.from in
+    let ready2 = ready_next _ _ customer owner.block choices Car _ _ _ _ ready car.answer car.blocks car.from
+    (picks_keep customer Car choices.car) in
     let flight = c.in_ok-flight.ensures in
     let ready3 = ready_next _ _ customer owner.block choices Flight _ _ _ _ ready2 flight.answer flight.blocks
-    flight.from in
+    flight.from (picks_keep customer Flight choices.flight) in
     ready3.state
 
 pub reserve_choice-requires-3-clause-owner : goal.reserve_choice-requires-3-clause-owner
@@ -118,10 +123,11 @@ reserve_choice-requires-3-clause-owner g c =
     c.requires.state c.requires.known
     c.in_ok-owner.ensures.answer c.list_head-from.ensures in
     let car = c.in_ok-car.ensures in
-    let ready2 = ready_next _ _ customer owner.block choices Car _ _ _ _ ready car.answer car.blocks car.from in
+    let ready2 = ready_next _ _ customer owner.block choices Car _ _ _ _ ready car.answer car.blocks car.from
+    (picks_keep customer Car choices.car) in
     let flight = c.in_ok-flight.ensures in
     let ready3 = ready_next _ _ customer owner.block choices Flight _ _ _ _ ready2 flight.answer flight.blocks
-    flight.from in
+    flight.from (picks_keep customer Flight choices.flight) in
     ready3.owner
 
 pub reserve_choice-requires-3-clause-known : goal.reserve_choice-requires-3-clause-known
@@ -133,10 +139,11 @@ reserve_choice-requires-3-clause-known g c =
     c.requires.state c.requires.known
     c.in_ok-owner.ensures.answer c.list_head-from.ensures in
     let car = c.in_ok-car.ensures in
-    let ready2 = ready_next _ _ customer owner.block choices Car _ _ _ _ ready car.answer car.blocks car.from in
+    let ready2 = ready_next _ _ customer owner.block choices Car _ _ _ _ ready car.answer car.blocks car.from
+    (picks_keep customer Car choices.car) in
     let flight = c.in_ok-flight.ensures in
     let ready3 = ready_next _ _ customer owner.block choices Flight _ _ _ _ ready2 flight.answer flight.blocks
-    flight.from in
+    flight.from (picks_keep customer Flight choices.flight) in
     ready3.known.known Room
 
 pub reserve_choice-requires-3-clause-from : goal.reserve_choice-requires-3-clause-from
@@ -148,10 +155,11 @@ reserve_choice-requires-3-clause-from g c =
     c.requires.state c.requires.known
     c.in_ok-owner.ensures.answer c.list_head-from.ensures in
     let car = c.in_ok-car.ensures in
-    let ready2 = ready_next _ _ customer owner.block choices Car _ _ _ _ ready car.answer car.blocks car.from in
+    let ready2 = ready_next _ _ customer owner.block choices Car _ _ _ _ ready car.answer car.blocks car.from
+    (picks_keep customer Car choices.car) in
     let flight = c.in_ok-flight.ensures in
     let ready3 = ready_next _ _ customer owner.block choices Flight _ _ _ _ ready2 flight.answer flight.blocks
-    flight.from in
+    flight.from (picks_keep customer Flight choices.flight) in
     ready3.start
 
 pub returns-clause-answer : goal.returns-clause-answer

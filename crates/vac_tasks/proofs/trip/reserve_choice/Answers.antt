@@ -3,7 +3,7 @@ use Rattle.vac_tasks.specs.Trips.{ChoiceIsAt, first_key}
 use Rattle.vac_tasks.specs.Entries.{CustomerIsAt}
 use Rattle.vac_tasks.specs.Starts.{HasStart}
 use Rattle.vac_tasks.proofs.Booking.{reserved_none, reserved_missing, reserve_range, reserved, reserved_stays}
-use Rattle.vac_tasks.proofs.Booking.{blocks_same, turn_same, has_later, reserved_turn}
+use Rattle.vac_tasks.proofs.Booking.{blocks_same, turn_same, has_later, has_price, reserved_turn}
 use Rattle.vac_tasks.proofs.trip.reserve_choice.Goals as goal
 
 pub returns-in_default-clause-answer : goal.returns-in_default-clause-answer
@@ -23,6 +23,12 @@ returns-in_default-block-clause-blocks g c = blocks_same _ _
 
 pub returns-in_default-block-clause-from : goal.returns-in_default-block-clause-from
 returns-in_default-block-clause-from g c = turn_same _ _ _ _ _ _ c.requires.owner c.requires.from
+
+pub reserve_from-requires-clause-price : goal.reserve_from-requires-clause-price
+reserve_from-requires-clause-price g c =
+    let known : ChoiceIsAt (g.M.TxRead.view c.args.memory.now) c.args.kind c.in-Some.chosen =
+    rw c.in-Some.is at c.requires.known in
+    has_price _ _ _ c.requires.state known
 
 pub reserve_from-requires-clause-from : goal.reserve_from-requires-clause-from
 reserve_from-requires-clause-from g c =
