@@ -20,7 +20,8 @@ use Rattle.stm_region.proofs.Mirroring.{mirrors_of}
 use Rattle.stm_region.proofs.Tracing.{step_listed, step_opened, step_numbers, split_listed, split_opened, split_numbers}
 use Rattle.stm_region.proofs.Tracing.{gather_listed, gather_opened, gather_numbers, renewal_listed}
 use Rattle.stm_region.proofs.Tracing.{renewal_opened, renewal_numbers}
-use Rattle.stm_region.proofs.Stepping.{kept_after, traced_after, member, there, may_here, in_core, split_kept, gather_kept}
+use Rattle.stm_region.proofs.Stepping.{kept_after, traced_after, member, there, may_here, in_core, split_kept}
+use Rattle.stm_region.proofs.Stepping.{gather_kept}
 use Rattle.stm_region.proofs.Ending.{ends, alone, reopens_cells}
 use Rattle.stm_region.proofs.Laws.{is_listed}
 

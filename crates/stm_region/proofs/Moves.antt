@@ -33,7 +33,8 @@ use Rattle.stm_region.specs.Rule.{IsCoreState}
 use Rattle.stm_region.proofs.Tracing.{step_traced, step_listed, step_opened, step_numbers}
 use Rattle.stm_region.proofs.Deciding.{Makes, tick_makes, validate_makes, finish_makes}
 use Rattle.stm_region.proofs.Places.{Stays, stays, in_table}
-use Rattle.stm_region.proofs.Stepping.{kept_after, member, there as there_is, may_here, rule_after, split_kept, gather_kept}
+use Rattle.stm_region.proofs.Stepping.{kept_after, member, there as there_is, may_here, rule_after, split_kept}
+use Rattle.stm_region.proofs.Stepping.{gather_kept}
 use Rattle.stm_region.specs.Runs.{bounds_at}
 
 not_in : {A : Type 0} (x : A) → In x [] → ⊥
@@ -387,7 +388,8 @@ module _ (fits : List ℕ → Type 0) (lawful : RecordLaw) (law : Keeping fits l
           keeps,
           tt,
           subst (λ w. IsCoreState fits lawful o (Rattle.atomic_table.specs.Table.stepped s w
-              (f (slice_index s.words word)) id me.1 (after (unplaced r.renewal) lk e (slice_index s.words w) v) keeps)) (sym is)
+              (f (slice_index s.words word)) id me.1 (after (unplaced r.renewal) lk e (slice_index s.words w) v) keeps))
+              (sym is)
               (kept_after fits lawful o s h id v at e range' may0 (f (slice_index s.words word)) does'),
           tells (slice_index s.words word) (rw there (told_of c (stepped (unplaced r.renewal) lk e id v c)
               (matches s h) m' z h.bounded h.fitting h.rule inv' id v e at' here right may'.1))

@@ -23,7 +23,8 @@ use Rattle.stm_region.specs.Shown.{unplaced}
 use Rattle.stm_region.specs.Layout.{place}
 use Rattle.stm_region.specs.Traced.{unplaced_record, unplaced_client, Shuffled, none, both, swap, over}
 use Rattle.stm_region.specs.Runs.{Moment, Move, step, word_at, Moves, Has, Listing, start_of, IsRun, HasOneList}
-use Rattle.stm_region.specs.RealTime.{events_at, history_at, begun_at, client_at, IsDecidingMove, ComesBefore, KeepsRealTime}
+use Rattle.stm_region.specs.RealTime.{events_at, history_at, begun_at, client_at, IsDecidingMove, ComesBefore}
+use Rattle.stm_region.specs.RealTime.{KeepsRealTime}
 use Rattle.stm_region.specs.RealTime.{EveryRunKeepsRealTime}
 use Rattle.stm_region.proofs.Places.{found_there}
 

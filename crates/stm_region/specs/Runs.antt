@@ -158,7 +158,8 @@ pub record IsRun (fits : List ℕ → Type 0) (lawful : RecordLaw) (moments : �
   pub goes : (n : ℕ) → Moves lawful (moments n) (moves n) (moments (suc n))
 
 -- one list of events for a whole run: the list of each state is the list of the state before it
--- with the event of the move between the two at its end. The list of the first state is the given one
+-- with the event of the move between the two at its end. The list of the first state is the given
+-- one
 pub record HasOneList (lawful : RecordLaw) (moments : ℕ → Moment) (moves : ℕ → Move)
     (first : Listing lawful (moments 0)) : Type 0 where
   pub lists : (n : ℕ) → Listing lawful (moments n)
