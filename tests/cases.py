@@ -22,8 +22,8 @@ lines that begin with '!', or none of them if they are '!|' alone. A case withou
 if its status is 2, and in no other case, but that a judge may warn of a log that shows little.
 
 A script is a case of its own form, for the rules of the system. Its commands are run over the transactional memory,
-which must give the replies. With these replies they are a history, which must be legal for `judge history --given-order`, and in
-order for `judge order`, both on the sequential manager.
+which must give the replies. With these replies they are a history, which must be legal for `judge history
+--given-order`, and in order for `judge order`, both on the sequential manager.
 
   & BLOCKS      a script for a system of so many blocks
   * LINE -> REPLY

@@ -11,21 +11,22 @@
 set -euo pipefail
 export LC_ALL=C
 tests="$(dirname "$(readlink -f "${BASH_SOURCE[0]}")")"
-program="${1:-$tests/../crates/vacation/out/vacation}"
+# (Exported below under a name of its own: the 'python3' of pyenv sets a variable 'program'.)
+vacation_program="${1:-$tests/../crates/vacation/out/vacation}"
 work="$(mktemp -d)"
 trap 'rm -rf "$work"' EXIT
 
-if [ ! -x "$program" ]; then
-    echo "rows: there is no program at $program: './vacation' builds it" >&2
+if [ ! -x "$vacation_program" ]; then
+    echo "rows: there is no program at $vacation_program: './vacation' builds it" >&2
     exit 1
 fi
 
 # The file of the program with this name.
 file_of() {
     local folder
-    folder="$(dirname "$(readlink -f "$program")")"
+    folder="$(dirname "$(readlink -f "$vacation_program")")"
     if [ "$1" = vacation ]; then
-        echo "$program"
+        echo "$vacation_program"
     elif [ -x "$folder/$1" ]; then
         echo "$folder/$1"
     else
@@ -42,7 +43,7 @@ part() {
 run_words() {
     timeout 60 "$(file_of "$1")" "${@:2}"
 }
-export program
+export vacation_program
 export -f file_of run_words
 
 # Runs one row; says what differs.

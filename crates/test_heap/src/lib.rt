@@ -1,6 +1,6 @@
 //! Tests of the structures in words over plain memory: blocks, lists of bookings, tables, the
 //! records in them, and reports, with words and answers that were worked out by hand. Audits of
-//! words, and tasks over plain memory, are asked by `tests/rows.sh` and `tests/check.py`.
+//! words are asked by `tests/rows.sh` and `tests/check.py`, and tasks by `tests/rows.sh`.
 #![tactic(auto)]
 
 #[cfg(test)]

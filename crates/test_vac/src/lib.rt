@@ -1,7 +1,7 @@
 //! Tests of the reservation crates: clients over a region, and random tasks beside the plain
 //! manager. The clients conflict, come and go, and call from threads. Scripts whose replies were
-//! worked out by hand from the rules (`docs/RULES.md`) are run by `tests/rows.sh`: over a region,
-//! over plain memory and on the plain manager.
+//! worked out by hand from the rules (`docs/RULES.md`) are run by `tests/rows.sh`, over a region
+//! and on the plain manager.
 #![tactic(auto)]
 
 #[cfg(test)]
