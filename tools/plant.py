@@ -369,7 +369,10 @@ def cost_of_crate(name):
 
 
 def processors():
-    """As many provers as there are processors and memory for."""
+    """As many provers as RT_JOBS says, as for `rt ci`, or else as there are processors and memory for."""
+    given = os.environ.get("RT_JOBS", "")
+    if given.isdigit() and int(given):
+        return int(given)
     free = int(re.search(r"MemAvailable:\s+(\d+)", Path("/proc/meminfo").read_text())[1]) << 10
     return max(1, min(len(os.sched_getaffinity(0)), free // PROVER_BYTES))
 
