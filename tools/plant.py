@@ -304,10 +304,14 @@ class Report:
     def known(self, mutant):
         """Takes a mutant's result from an earlier run, if it still stands. Returns whether it did."""
         found = None if self.options.anew else self.shown[mutant.crate].of(mutant)
-        if found:
-            came_to = next(kind for kind, word in WORDS.items() if word == found[0])
-            self.count(mutant, as_meant(mutant, came_to, found[1], self.options.rows)[0])
-        return bool(found)
+        if not found:
+            return False
+        came_to = next(kind for kind, word in WORDS.items() if word == found[0])
+        meant, _ = as_meant(mutant, came_to, found[1], self.options.rows)
+        if meant in FAILED:
+            return False
+        self.count(mutant, meant)
+        return True
 
     def tell(self, mutant, came_to, shown):
         """Keeps a result, unless it is a fault, tells it and counts it."""
@@ -369,7 +373,10 @@ def cost_of_crate(name):
 
 
 def processors():
-    """As many provers as there are processors and memory for."""
+    """As many provers as RT_JOBS says, as for `rt ci`, or else as there are processors and memory for."""
+    given = os.environ.get("RT_JOBS", "")
+    if given.isdigit() and int(given):
+        return int(given)
     free = int(re.search(r"MemAvailable:\s+(\d+)", Path("/proc/meminfo").read_text())[1]) << 10
     return max(1, min(len(os.sched_getaffinity(0)), free // PROVER_BYTES))
 
