@@ -20,8 +20,8 @@ EndsWithStatus status done stopped = EndsBy FAULT status done stopped
 -- Not said: that the line of a fault is written, or written completely; that the line names the
 -- fault that was met; that the output is flushed. Tests use streams that fail.
 abbrev pub EndsWithVerdict : ℕ → Type 0 → Type 0 → Type 0 → Type 0
-EndsWithVerdict status yes no stopped =
-    ((status ≡ 0) × yes) ⊎ (((status ≡ 1) × no) ⊎ ((status ≡ FAULT) × stopped))
+EndsWithVerdict status positive negative stopped =
+    ((status ≡ 0) × positive) ⊎ (((status ≡ 1) × negative) ⊎ ((status ≡ FAULT) × stopped))
 
 -- the end of the program after a judgement: the status is 0 if the verdict is positive, and 1
 -- otherwise; after a fault the status is 4, and a prefix of the line that names the fault was

@@ -1,17 +1,22 @@
 //! The judge: runs the command of a command line, and returns its status.
 
 ghost use Rattle.std.specs.Prelude.{◌≡◌, List, map, string_bytes};
+ghost use Rattle.clap.specs.Words.{kind_of};
 ghost use Rattle.judge_coverage.specs.Watching.{inner_of};
-ghost use Rattle.cli_judge.specs.Program.{Serves};
+ghost use Rattle.cli_common.specs.Showing.{ShowsError};
+ghost use Rattle.cli_judge.specs.declared.status.TheConstants.{FAULT};
+ghost use Rattle.cli_judge.specs.Program.{Serves, version_text};
 
 use crate::files::Open;
 use crate::judging::{judge, judge_opaque};
 use crate::parting::part;
 use crate::searching::order;
 use crate::status::FAULT;
+use clap::Error;
 use cli_common::{refuse, show};
 use judge_coverage::Watched;
 use judge_options::{Request, VERSION, read_asked};
+use std::alloc::Global;
 use std::io::{Read, Write};
 use std::time::Clock;
 
@@ -61,7 +66,7 @@ pub fn run_words<T: Clock + AllocGlobal, R: Read, W: Write, E: Write, F: Open>(
         Ok(Request::UnknownLevel) => refuse(UNKNOWN_LEVEL, errors),
         Ok(Request::Attempts(how)) => judge_opaque(alloc, how, input, output, errors),
         Ok(Request::Part(words)) => part(alloc, &words, input, output, errors),
-        Err(error) => show(alloc, &error, VERSION.as_bytes(), FAULT, output, errors),
+        Err(error) => explain(alloc, &error, output, errors),
     }
 }
 
@@ -74,4 +79,13 @@ pub fn refuse_words<E: Write>(errors: &mut E) -> u8
     ensures { result ≡ 2 }
 {
     refuse(UNREADABLE_WORD, errors)
+}
+
+/// Shows the help, the version, or the reason why the command line was refused, and returns the
+/// status.
+fn explain<W: Write, E: Write>(alloc: Global, error: &Error, output: &mut W, errors: &mut E) -> u8
+    ensures { ShowsError version_text FAULT (kind_of error.now) result
+        (W.contents output.old) (W.contents output.new) }
+{
+    show(alloc, error, VERSION.as_bytes(), FAULT, output, errors)
 }

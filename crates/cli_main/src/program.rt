@@ -1,11 +1,16 @@
 //! The program: runs the command of a command line, and returns its status.
 
 ghost use Rattle.std.specs.Prelude.{◌≡◌, true, List, map, string_bytes};
+ghost use Rattle.clap.specs.Words.{kind_of};
 ghost use Rattle.vac_model.specs.Ranges.{is_block_count};
+ghost use Rattle.cli_common.specs.Showing.{ShowsError};
+ghost use Rattle.cli_main.specs.declared.status.TheConstants.{FAULT};
 ghost use Rattle.cli_main.specs.Program.{RunsScript, Dumps, Checks, ListsTasks, Serves};
+ghost use Rattle.cli_main.specs.Program.{version_text};
 
 use crate::load::load;
 use crate::status::{FAULT, end_by, end_by_settings, end_checked, end_done};
+use clap::Error;
 use cli_common::{DONE, refuse, show};
 use cli_options::{Request, VERSION, read_asked};
 use cli_script::{check_words, dump_script, run_script};
@@ -53,7 +58,7 @@ pub fn run_words<
         Ok(Request::Check) => check(alloc, input, output),
         Ok(Request::Load(settings, how)) => load(rt, &settings, how, output, errors),
         Ok(Request::Tasks(settings)) => list_tasks(alloc, &settings, output, errors),
-        Err(error) => show(alloc, &error, VERSION.as_bytes(), FAULT, output, errors),
+        Err(error) => explain(alloc, &error, output, errors),
     }
 }
 
@@ -110,4 +115,13 @@ fn list_tasks<W: Write, E: Write>(
         Err(TasksFault::Memory) => end_by(StreamFault::Memory, output),
         Err(TasksFault::Write) => end_by(StreamFault::Write, output),
     }
+}
+
+/// Shows the help, the version, or the reason why the command line was refused, and returns the
+/// status.
+fn explain<W: Write, E: Write>(alloc: Global, error: &Error, output: &mut W, errors: &mut E) -> u8
+    ensures { ShowsError version_text FAULT (kind_of error.now) result
+        (W.contents output.old) (W.contents output.new) }
+{
+    show(alloc, error, VERSION.as_bytes(), FAULT, output, errors)
 }
