@@ -108,12 +108,12 @@ def drawn_line(draw):
         "update " + " ; ".join(drawn_change(draw) for _ in range(draw.randint(1, 3)))])
 
 
-def holds_model(program):
-    """The model gives the program's replies, with few blocks and with many."""
+def holds_model(vacation):
+    """The model gives the replies of the program vacation, with few blocks and with many."""
     for number in range(SCRIPTS):
         draw, blocks = random.Random(SEED + number), (6, 1024)[number % 2]
         lines = [drawn_line(draw) for _ in range(400)]
-        done = subprocess.run([program.path, "run", "--blocks", str(blocks)], capture_output=True, text=True,
+        done = subprocess.run([vacation, "run", "--blocks", str(blocks)], capture_output=True, text=True,
                               input="".join(f"{line}\n" for line in lines), check=True, timeout=PATIENCE)
         state = {}
         for line, wanted in zip(lines, done.stdout.splitlines(), strict=True):
@@ -463,9 +463,9 @@ def holds_other_logs(program, folder):
     want(text.startswith("legal calls=2 clients=2 legal in another order; in the order of its lines: illegal reply 1"
                          " -1 ")
          and "that order is wrong; or the runtime is wrong" in text, f"{lines}")
-    attempts = subprocess.run([program.path, "load", "--clients", "2", "--attempts"], capture_output=True, text=True,
+    attempts = subprocess.run([built.vacation(), "load", "--clients", "2", "--attempts"], capture_output=True, text=True,
                               check=True, timeout=PATIENCE).stdout
-    tasks = subprocess.run([program.path, "tasks", "--tasks", "30"], capture_output=True, text=True, check=True,
+    tasks = subprocess.run([built.vacation(), "tasks", "--tasks", "30"], capture_output=True, text=True, check=True,
                            timeout=PATIENCE).stdout
     keys = '0 10 20 put "a" "1" -> ok\n0 21 30 txn if "a" "1" if "b" - then "b" "1" -> true\n1 25 - get "a" -> ?\n'
     for text, command in ((attempts, "'judge attempts < LOG'"), (keys, "'kv_judge < LOG'"),
@@ -482,7 +482,7 @@ def holds_other_logs(program, folder):
 def holds_logs(program, folder):
     """Legal logs show no contradiction; one with a wrong reply shows it; a damaged one has the judge's fault."""
     for number, options in enumerate((["--clients", "4"], ["--clients", "8", "--items", "4", "--user", "50"])):
-        done = subprocess.run([program.path, "load", *options, "--seed", str(number + 1), "--history"],
+        done = subprocess.run([built.vacation(), "load", *options, "--seed", str(number + 1), "--history"],
                               capture_output=True, text=True, check=True, timeout=PATIENCE)
         log = folder / "log"
         log.write_text(done.stdout, encoding="ascii")
@@ -530,7 +530,7 @@ def main():
     program = Program(Path(named))
     with tempfile.TemporaryDirectory(prefix="explain-test-") as folder:
         try:
-            holds_model(program)
+            holds_model(built.vacation())
             holds_reading()
             holds_openings()
             counted = holds_parts(program)

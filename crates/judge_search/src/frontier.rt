@@ -298,13 +298,14 @@ fn sweep_end<M: Object + Drop>(
     Ok(Sweep::Full)
 }
 
-/// Returns the given node, or the other one if more completed calls have a position there.
+/// Returns the given node if more completed calls have a position there, or the other one: of two
+/// nodes with as many, the one of the later end, where the calls of earlier ends have positions.
 fn deeper_of<M: Drop>(best: Option<Node<M>>, node: Node<M>) -> Option<Node<M>>
     ensures { IsDeepestOf best (node ∷ []) result }
 {
     match best {
         Some(best) => {
-            if node.placed <= best.placed {
+            if node.placed < best.placed {
                 Some(best)
             } else {
                 Some(node)
