@@ -21,11 +21,11 @@ from programs import options_of
 
 # The most instructions of a task, by setting.
 MOST = {
-    "large": 7_150,
-    "crowded": 7_890,
-    "defaults": 6_220,
-    "apart": 6_160,
-    "readers": 4_150,
+    "large": 7_160,
+    "crowded": 7_930,
+    "defaults": 6_260,
+    "apart": 6_175,
+    "readers": 4_160,
 }
 TASKS = 2_000
 # Enough for a run under callgrind on a busy machine, in seconds.

@@ -302,17 +302,14 @@ Word bill(Memory memory, Id id)
     return customer == 0 ? NO_NUMBER : bill_at(memory, customer);
 }
 
-// Gives all bookings back, and takes the customer out of the table. Returns the customer's bill,
-// which is added up in the same walk.
+// Gives all bookings back, and takes the customer out of the table.
 template <class Memory>
-Word drop_customer_at(Memory memory, unsigned start, Id id, Addr customer)
+void drop_customer_at(Memory memory, unsigned start, Id id, Addr customer)
 {
-    Word total = 0;
     const Addr first = follow(memory, customer + BOOKINGS);
     for (Addr booking = first; booking != 0;) {
         const Kind kind = static_cast<Kind>(memory.read(booking + BOOKED_KIND));
         const Id item_id = static_cast<Id>(memory.read(booking + BOOKED_ID));
-        total += memory.read(booking + SUM);
         const Addr item = find_item(memory, kind, item_id);
         const Addr next = follow(memory, booking + NEXT);
         give_units_back(memory, item, memory.read(booking + UNITS));
@@ -322,7 +319,6 @@ Word drop_customer_at(Memory memory, unsigned start, Id id, Addr customer)
     if (first != 0)
         memory.write(customer + BOOKINGS, 0);
     remove_entry(memory, start, CUSTOMERS, id);
-    return total;
 }
 
 template <class Memory>
@@ -507,7 +503,8 @@ void run_leave(Memory memory, unsigned start, Id customer_id, Reply& reply)
     const Addr customer = find_customer(memory, customer_id);
     if (customer == 0)
         return reply.set_number(NO_NUMBER);
-    reply.set_number(drop_customer_at(memory, start, customer_id, customer));
+    reply.set_number(bill_at(memory, customer));
+    drop_customer_at(memory, start, customer_id, customer);
 }
 
 // Runs a task as the body of a transaction over this memory.

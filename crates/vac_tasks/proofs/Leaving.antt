@@ -1,10 +1,9 @@
 -- Bookings of a customer who goes are given back, always the first one.
 use Rattle.std.proofs.Common.{◌≡◌, ◌≢◌, ℕ, ◌+◌, ◌-◌, ◌<◌, ◌≤◌, ◌^◌, List, [], ◌∷◌, length, Some, None, true, refl, sym}
 use Rattle.std.proofs.Common.{ap, ◌∙◌, subst, arith, add-zero}
-use Rattle.std.specs.Prelude.{Option, IsSome}
-use Rattle.std.specs.Option.{option_map}
+use Rattle.std.specs.Prelude.{IsSome}
 use Rattle.std.proofs.lemmas.Grind.{not_there}
-use Rattle.std.specs.FinMap.{entries, get, remove, len, len-entries}
+use Rattle.std.specs.FinMap.{entries, remove, len, len-entries}
 use Rattle.tx_memory.specs.View.{View, Words, Sees, RestsOn, Loaded, memory}
 use Rattle.tx_memory.specs.Seen.{some_le}
 use Rattle.vac_model.specs.declared.items.Booking.{Booking}
@@ -14,12 +13,9 @@ use Rattle.vac_model.specs.Amounts.{is_id}
 use Rattle.vac_model.specs.Balanced.{IsBalanced}
 use Rattle.vac_model.proofs.Ids.{id_low, id_high, id_between}
 use Rattle.vac_model.specs.Ranges.{is_command}
-use Rattle.vac_model.specs.State.{State, Bookings, Place, item_of, bookings_of, bill_of}
+use Rattle.vac_model.specs.State.{State, Bookings, Place, item_of, bookings_of}
 use Rattle.vac_model.specs.Step.{Outcome}
 use Rattle.vac_model.proofs.Balance.{some_same}
-use Rattle.vac_model.proofs.Bounds.{bill_small}
-use Rattle.vac_model.proofs.Places.{place_cmp_total, place_cmp-IsAntisymmetric}
-use Rattle.vac_model.proofs.Sums.{sum-remove}
 use Rattle.vac_model.proofs.Views.{not_some}
 use Rattle.tx_alloc.specs.Rows.{Rows, times}
 use Rattle.tx_alloc.proofs.Times.{times_first}
@@ -43,8 +39,8 @@ use Rattle.vac_records.proofs.Items.{item_found}
 use Rattle.vac_records.proofs.Counting.{some_lt}
 use Rattle.vac_tasks.specs.Entries.{customer_block, LacksItem, HasItemAt, CustomerIsAt}
 use Rattle.vac_tasks.specs.BookingSteps.{Here, AtSpot, HasSpot, Lands, ServesCommand}
-use Rattle.vac_tasks.specs.CustomerSteps.{HasFirst, StartsAt, PlaceRead, HasBill, IsLeaving, OneGivenBack, GivenBack}
-use Rattle.vac_tasks.proofs.Held.{read_both, state_on, item_same, item_is, item_none}
+use Rattle.vac_tasks.specs.CustomerSteps.{HasFirst, StartsAt, PlaceRead, IsLeaving, OneGivenBack, GivenBack}
+use Rattle.vac_tasks.proofs.Held.{state_on, item_same, item_is, item_none}
 use Rattle.vac_tasks.proofs.Serving.{serves_after, outcome_lands, customer_lands}
 use Rattle.vac_tasks.proofs.Owners.{owner_list, spot_same, list_held}
 use Rattle.vac_tasks.proofs.Billing.{seated, few_bookings}
@@ -89,25 +85,6 @@ item_there : (state : State) (id : ℕ) (place : Place) → IsBalanced state →
 item_there state id place balanced f =
     (balanced.bookings id f.bookings place.0 place.1 f.booking f.there
     (first_found f.bookings place f.booking f.rest f.entries_are)).item
-
--- the sum of the first booking, as it was read
-pub record SumRead (s s' : View) (b sum : ℕ) : Type 0 where
-  pub is : (image : List ℕ) → Sees s' image → mem s image (b + 2) ≡ sum
-
-pub sum_read : (s s1 s2 s3 : View) (b sum : ℕ) (place : Place) → PlaceRead s s1 b place → Loaded s1 s2 (b + 2) sum →
-    OnlyRead s2 s3 → SumRead s s3 b sum
-sum_read s s1 s2 s3 b sum place read l r = record {
-  is = λ image i. rw read.writes at (l.answer image (r.kept.seen image i));
-}
-
-pub loaded_then : (s1 s2 s3 : View) (a v : ℕ) → Loaded s1 s2 a v → OnlyRead s2 s3 → OnlyRead s1 s3
-loaded_then s1 s2 s3 a v l r = read_both s1 s2 s3 (record { kept = l.kept; writes = l.writes }) r
-
--- the bill with the first booking and without it
-bill_less : (b : Bookings) (p : Place) (x : Booking) → get b p ≡ Some x → x.sum + bill_of (remove b p) ≡ bill_of b
-bill_less b p x found =
-    let sums = sum-remove place_cmp_total place_cmp-IsAntisymmetric (λ (y : Booking). y.sum) b p x found in
-    omega (arith, sums)
 
 pub reads_of : (s s1 s2 : View) (b : ℕ) (place : Place) → PlaceRead s s1 b place → OnlyRead s1 s2 → OnlyRead s s2
 reads_of s s1 s2 b place read r = record {
@@ -186,7 +163,7 @@ module _ (s s1 s2 : View) (id c b : ℕ) (place : Place) (read : PlaceRead s s1 
               (first.under image state i0 h).listed (place_is image i.sees));
         }
 
-  module _ (s3 : View) (item sum : ℕ) (reply : Reply) (cost : SumRead s s2 b sum) (c_some : c ≢ 0) (b_some : b ≢ 0)
+  module _ (s3 : View) (item : ℕ) (reply : Reply) (c_some : c ≢ 0) (b_some : b ≢ 0)
       (at : HasItemAt s2 place.0 place.1 item) (small : place.1 < 2 ^ 32)
       (range : is_command (command.Cancel id place.0 place.1) ≡ true)
       (v : ServesCommand s2 s3 (command.Cancel id place.0 place.1) reply
@@ -216,8 +193,7 @@ module _ (s s1 s2 : View) (id c b : ℕ) (place : Place) (read : PlaceRead s s1 
       left : (image : List ℕ) (state : State) (bookings : Bookings) → Sees s3 image →
           (h : IsState (mem s image) (length image) state) → customer_block h id ≡ c → mem s image (head_of c) ≡ b →
           HasFirst (mem s image) (length image) state id b → bookings_of state id ≡ Some bookings →
-          IsLeaving (mem s3 image) (length image) state id c (len bookings - 1) sum
-      unfolding first_at
+          IsLeaving (mem s3 image) (length image) state id c (len bookings - 1)
       left image state bookings i3 h seat leads first there =
           let l = lands image state i3 h seat leads first in
           let out = outcome_lands (mem s image) (mem s3 image) (length image) state
@@ -244,14 +220,10 @@ module _ (s s1 s2 : View) (id c b : ℕ) (place : Place) (read : PlaceRead s s1 
             bookings = remove f.bookings place;
             there = still_there state id f.bookings place.0 place.1 x f.booking;
             few = omega (arith, fewer, long);
-            bill = ap (λ (o : Option Bookings). option_map bill_of o) f.there
-                ∙ ap (λ (k : ℕ). Some k) (sym (bill_less f.bookings place f.booking found)
-                ∙ ap (λ (k : ℕ). k + bill_of (remove f.bookings place))
-                (cost.is image (v.kept.seen image i3)));
             drops = drop_same state id f.bookings place.0 place.1 x f.booking f.rest f.there is_there f.entries_are;
           }
 
-      pub one_given : OneGivenBack s s3 id c b sum
+      pub one_given : OneGivenBack s s3 id c b
       one_given = record {
         kept = kept_both s s2 s3 (kept_both s s1 s2 read.kept r.kept) v.kept;
         under = left;
@@ -326,12 +298,11 @@ starts_at s s1 id c head block e held at f = record {
 }
 
 -- at the start all bookings are left
-pub all_left : (s : View) (id c : ℕ) → c ≢ 0 → GivenBack s s id c 262144 0
+pub all_left : (s : View) (id c : ℕ) → c ≢ 0 → GivenBack s s id c 262144
 all_left s id c some = record {
   kept = kept_none s;
   under = λ image state i h seat.
       let t = customer_found (mem s image) (length image) [] state h.represents id c seat some in
-      let whole : bill_of t.bookings ≡ 0 + bill_of t.bookings = omega arith in
       record {
         state = state;
         is = h;
@@ -339,44 +310,21 @@ all_left s id c some = record {
         bookings = t.bookings;
         there = t.there;
         few = few_bookings (mem s image) (length image) state id t.bookings h t.there;
-        bill = ap (λ (o : Option Bookings). option_map bill_of o) t.there ∙ ap (λ (k : ℕ). Some k) whole;
         drops = refl;
       };
 }
 
-pub given_read : (s0 s s1 : View) (id c most paid : ℕ) → OnlyRead s s1 → GivenBack s0 s id c most paid →
-    GivenBack s0 s1 id c most paid
-given_read s0 s s1 id c most paid r g = record {
+pub given_read : (s0 s s1 : View) (id c most : ℕ) → OnlyRead s s1 → GivenBack s0 s id c most → GivenBack s0 s1 id c most
+given_read s0 s s1 id c most r g = record {
   kept = kept_both s0 s s1 g.kept r.kept;
   under = λ image state i h seat. rw r.writes (g.under image state (r.kept.seen image i) h seat);
 }
 
-bill_moves : (state : State) (id : ℕ) (b : Bookings) (paid sum rest : ℕ) → bookings_of state id ≡ Some b →
-    HasBill state id (sum + rest) → paid + bill_of b ≡ paid + sum + rest
-bill_moves state id b paid sum rest there bill =
-    let same : bill_of b ≡ sum + rest =
-    some_same (bill_of b) (sum + rest) (sym (ap (λ (o : Option Bookings). option_map bill_of o) there) ∙ bill) in
-    omega (arith, same)
-
--- what was given back cost no more than the whole bill, which is a 64-bit number
-pub paid_fits : (s s' : View) (id c most paid : ℕ) → HoldsState s → CustomerIsAt s id c →
-    GivenBack s s' id c most paid → ∥ ((image : List ℕ) × RestsOn s' image) ∥₁ → paid < 2 ^ 64
-paid_fits s s' id c most paid held at g ws = some_lt paid (2 ^ 64) ws (λ w.
-    let i0 = stood g.kept w.0 w.1 in
-    let t = held.under w.0 i0 in
-    let seat = at.at w.0 t.0 i0 t.1 in
-    let l = g.under w.0 t.0 w.1.sees t.1 seat in
-    let b = customer_found (mem s w.0) (length w.0) [] t.0 t.1.represents id c seat at.some in
-    let small = bill_small t.0 id b.bookings t.1.small b.there in
-    let same : bill_of b.bookings ≡ paid + bill_of l.bookings = some_same (bill_of b.bookings)
-    (paid + bill_of l.bookings) (sym (ap (λ (o : Option Bookings). option_map bill_of o) b.there) ∙ l.bill) in
-    omega (arith, small, same))
-
-pub given_one : (s0 s1 s2 : View) (id c b most less paid sum : ℕ) → less ≡ most - 1 → GivenBack s0 s1 id c most paid →
+pub given_one : (s0 s1 s2 : View) (id c b most less : ℕ) → less ≡ most - 1 → GivenBack s0 s1 id c most →
     ((image : List ℕ) (state : State) → Sees s1 image → (h : IsState (mem s1 image) (length image) state) →
     customer_block h id ≡ c → (mem s1 image (head_of c) ≡ b) × HasFirst (mem s1 image) (length image) state id b) →
-    OneGivenBack s1 s2 id c b sum → GivenBack s0 s2 id c less (paid + sum)
-given_one s0 s1 s2 id c b most less paid sum e g first one = record {
+    OneGivenBack s1 s2 id c b → GivenBack s0 s2 id c less
+given_one s0 s1 s2 id c b most less e g first one = record {
   kept = kept_both s0 s1 s2 g.kept one.kept;
   under = λ image state i h seat.
       let i1 = one.kept.seen image i in
@@ -390,16 +338,14 @@ given_one s0 s1 s2 id c b most less paid sum e g first one = record {
         bookings = o.bookings;
         there = o.there;
         few = (let a = o.few in let b = l.few in omega arith);
-        bill = l.bill ∙ ap (λ (k : ℕ). Some k) (bill_moves l.state id l.bookings paid sum (bill_of o.bookings)
-            l.there o.bill);
         drops = o.drops ∙ l.drops;
       };
 }
 
 -- an empty list: no booking is left
-pub none_first : (s0 s s1 : View) (id c head most paid : ℕ) → head ≡ c + 4 → c ≢ 0 →
-    First s s1 head None → GivenBack s0 s id c most paid → GivenBack s0 s1 id c 0 paid
-none_first s0 s s1 id c head most paid e some f g = record {
+pub none_first : (s0 s s1 : View) (id c head most : ℕ) → head ≡ c + 4 → c ≢ 0 →
+    First s s1 head None → GivenBack s0 s id c most → GivenBack s0 s1 id c 0
+none_first s0 s s1 id c head most e some f g = record {
   kept = kept_both s0 s s1 g.kept f.kept;
   under = λ image state i h at.
       let m = mem s image in
@@ -412,15 +358,13 @@ none_first s0 s s1 id c head most paid e some f g = record {
       let none = no_rows m n (m (c + 4)) rows list.list is in
       let none_left : len t.bookings ≡ 0 =
       len-entries t.bookings ∙ (ap length t.entries_are ∙ ap (λ (z : Rows). length (bookings_in m z)) none) in
-      let same : l.bookings ≡ t.bookings = some_same l.bookings t.bookings (sym l.there ∙ t.is.there) in
-      let after : IsLeaving m n state id c 0 paid = record {
+      let after : IsLeaving m n state id c 0 = record {
         state = l.state;
         is = l.is;
         seat = l.seat;
         bookings = t.bookings;
         there = t.is.there;
         few = omega arith;
-        bill = l.bill ∙ ap (λ (b : Bookings). Some (paid + bill_of b)) same;
         drops = l.drops;
       } in
       rw f.writes after;

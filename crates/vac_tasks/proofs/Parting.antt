@@ -1,15 +1,13 @@
 -- A customer without bookings goes: out of the table, and the block is given back.
 use Rattle.std.proofs.Common.{◌≡◌, ℕ, ◌<◌, List, [], ◌∷◌, length, Some, None, true, refl, sym, ap, ◌∙◌, arith}
-use Rattle.std.specs.Prelude.{Option, map, sum_by}
+use Rattle.std.specs.Prelude.{Option}
 use Rattle.std.specs.FinMap.{empty, empty_of_len}
 use Rattle.tx_memory.specs.View.{View, Sees}
 use Rattle.vac_model.specs.declared.commands.Command.TheVariants as command
 use Rattle.vac_model.specs.declared.commands.Refusal.TheVariants.{NoCustomer}
 use Rattle.vac_model.specs.declared.replies.Reply.TheVariants as reply
 use Rattle.vac_model.specs.Ranges.{is_command}
-use Rattle.vac_model.specs.State.{State, Bookings, Place, place_cmp, bookings_of, bill_of, without_customer}
-use Rattle.vac_model.specs.declared.items.Booking.{Booking}
-use Rattle.vac_model.proofs.Views.{entries-empty}
+use Rattle.vac_model.specs.State.{State, Bookings, bookings_of, without_customer}
 use Rattle.tx_alloc.specs.Pool.{IsBlock, HasUsed, Given}
 use Rattle.tx_alloc.specs.Rows.{Rows, cut_row, block_at}
 use Rattle.tx_tree.specs.Table.{FoundRow, Removed}
@@ -27,7 +25,7 @@ use Rattle.vac_records.proofs.Shifts.{in_table}
 use Rattle.vac_records.proofs.Single.{one_state, one_shape}
 use Rattle.vac_tasks.specs.Entries.{LacksCustomer, CustomerIsAt}
 use Rattle.vac_tasks.specs.Ran.{Ran, CustomerGone}
-use Rattle.vac_tasks.specs.CustomerSteps.{RanOn, HasNoBookings, GivenBack, HadBill}
+use Rattle.vac_tasks.specs.CustomerSteps.{RanOn, HasNoBookings, GivenBack}
 use Rattle.vac_tasks.proofs.Held.{customer_none, outcome_of, ran_reads, ran_after, read_none}
 use Rattle.vac_tasks.proofs.Dropping.{drop_bare}
 
@@ -110,9 +108,8 @@ module _ (s s1 : View) (id b : ℕ) (v : Removed s s1 4 id b) where
   }
 
 -- no booking is left
-pub bare : (s s' : View) (id c paid : ℕ) → HoldsState s → CustomerIsAt s id c → GivenBack s s' id c 0 paid →
-    HasNoBookings s' id
-bare s s' id c paid has at given = record {
+pub bare : (s s' : View) (id c : ℕ) → HoldsState s → CustomerIsAt s id c → GivenBack s s' id c 0 → HasNoBookings s' id
+bare s s' id c has at given = record {
   none = λ image state' i h'.
       let i0 = stood given.kept image i in
       let h = has.under image i0 in
@@ -123,9 +120,9 @@ bare s s' id c paid has at given = record {
       ap (λ (z : State). bookings_of z id) (sym same) ∙ (l.there ∙ ap (λ (z : Bookings). Some z) none);
 }
 
-pub given_holds : (s s' : View) (id c most paid : ℕ) → HoldsState s → CustomerIsAt s id c →
-    GivenBack s s' id c most paid → HoldsState s'
-given_holds s s' id c most paid has at given = record {
+pub given_holds : (s s' : View) (id c most : ℕ) → HoldsState s → CustomerIsAt s id c → GivenBack s s' id c most →
+    HoldsState s'
+given_holds s s' id c most has at given = record {
   inside = omega (arith, has.inside, given.kept.size);
   small = omega (arith, has.small, given.kept.size);
   under = λ image i.
@@ -136,9 +133,9 @@ given_holds s s' id c most paid has at given = record {
 }
 
 -- and the customer is still in the same block
-pub given_seat : (s s' : View) (id c most paid : ℕ) → HoldsState s → CustomerIsAt s id c →
-    GivenBack s s' id c most paid → CustomerIsAt s' id c
-given_seat s s' id c most paid has at given = record {
+pub given_seat : (s s' : View) (id c most : ℕ) → HoldsState s → CustomerIsAt s id c → GivenBack s s' id c most →
+    CustomerIsAt s' id c
+given_seat s s' id c most has at given = record {
   some = at.some;
   inside = (at.inside.0, omega (arith, at.inside.1, given.kept.size));
   at = λ image state' i h'.
@@ -150,9 +147,9 @@ given_seat s s' id c most paid has at given = record {
 }
 
 -- given back, and gone
-pub dropped : (s s1 s2 : View) (id c paid : ℕ) → is_command (command.DropCustomer id) ≡ true →
-    GivenBack s s1 id c 0 paid → CustomerGone s1 s2 id → RanOn s s2 id c (command.DropCustomer id) reply.Done
-dropped s s1 s2 id c paid range given gone = record {
+pub dropped : (s s1 s2 : View) (id c : ℕ) → is_command (command.DropCustomer id) ≡ true → GivenBack s s1 id c 0 →
+    CustomerGone s1 s2 id → RanOn s s2 id c (command.DropCustomer id) reply.Done
+dropped s s1 s2 id c range given gone = record {
   kept = kept_both s s1 s2 given.kept gone.kept;
   untouched = tt;
   idle = tt;
@@ -163,19 +160,6 @@ dropped s s1 s2 id c paid range given gone = record {
       outcome_of (mem s image) (mem s2 image) (length image) state (without_customer l.state id)
       (command.DropCustomer id) reply.Done h range (sym l.drops ∙ drop_bare l.state id there)
       (gone.gone image l.state i l.is there);
-}
-
--- the bill is what was given back, since no booking is left
-pub had_bill : (s s1 s2 : View) (id c paid : ℕ) → GivenBack s s1 id c 0 paid → CustomerGone s1 s2 id →
-    HadBill s s2 id c paid
-had_bill s s1 s2 id c paid given gone = record {
-  is = λ image state i h at.
-      let l = given.under image state (gone.kept.seen image i) h at in
-      let none : l.bookings ≡ empty = empty_of_len l.bookings (let f = l.few in omega arith) in
-      let nothing : bill_of l.bookings ≡ 0 = ap (λ (b : Bookings). bill_of b) none
-      ∙ ap (λ (es : List (Place × Booking)). sum_by (λ (b : Booking). b.sum) (map (λ (e : Place × Booking). e.1) es))
-      (entries-empty place_cmp) in
-      l.bill ∙ ap (λ (k : ℕ). Some k) (omega (arith, nothing));
 }
 
 -- nobody is there

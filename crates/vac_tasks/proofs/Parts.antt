@@ -24,8 +24,7 @@ use Rattle.vac_records.specs.Items.{mem}
 use Rattle.vac_records.specs.Steps.{kept_both, stood}
 use Rattle.vac_records.specs.Represents.{IsState}
 use Rattle.vac_records.specs.InMemory.{HoldsState, OnlyRead}
-use Rattle.vac_tasks.specs.CustomerSteps.{RanOn, HadBill}
-use Rattle.vac_tasks.specs.Entries.{LacksCustomer, HasCustomerAt}
+use Rattle.vac_tasks.specs.Entries.{LacksCustomer}
 use Rattle.vac_tasks.specs.Ran.{IsOutcome, Ran, RanQuestion}
 use Rattle.vac_tasks.specs.Reported.{Reported}
 use Rattle.vac_tasks.specs.RanTask.{RanTask}
@@ -93,6 +92,9 @@ billed (Some b) n e = record {
       (Some n) = e in cc);
 }
 
+number_is : (a b : Option ℕ) → ◌≡◌ {A = Reply} (reply.Number a) (reply.Number b) → a ≡ b
+number_is a b e = cc
+
 leave_is : (state : State) (id n : ℕ) → Billed (bookings_of state id) n →
     leave state id ≡ ((step state (command.DropCustomer id)).0, reply.Number (Some n))
 leave_is state id n b =
@@ -101,20 +103,21 @@ leave_is state id n b =
     ∙ ap (λ (k : ℕ). number_answered (step state (command.DropCustomer id)).0 (Some k)) b.bill
 
 -- a leave of a customer who is there
-pub left : (s s1 s2 : View) (id c n : ℕ) → OnlyRead s s1 → HasCustomerAt s1 id c →
-    RanOn s1 s2 id c (command.DropCustomer id) reply.Done → HadBill s1 s2 id c n →
-    RanTask s s2 (task.Leave id) (reply.Number (Some n))
-left s s1 s2 id c n reads at ran had = record {
-  kept = kept_both s s1 s2 reads.kept ran.kept;
+pub left : (s s1 s2 s3 : View) (id n : ℕ) → OnlyRead s s1 → RanQuestion s1 s2 (command.Bill id) (reply.Number (Some n))
+    →
+    Ran s2 s3 (command.DropCustomer id) reply.Done → RanTask s s3 (task.Leave id) (reply.Number (Some n))
+left s s1 s2 s3 id n reads asked ran = record {
+  kept = kept_both s s2 s3 (kept_both s s1 s2 reads.kept asked.ran.kept) ran.kept;
   untouched = tt;
   idle = tt;
   outcome = λ image state i h.
       let h1 = state_on s s1 image state reads.writes h in
-      let seat = at.at image state (ran.kept.seen image i) h1 in
-      let b = billed (bookings_of state id) n (had.is image state i h1 seat) in
-      outcome_is (mem s2 image) (length image) (leave state id) (step state (command.DropCustomer id)).0
+      let h2 = state_on s1 s2 image state asked.writes h1 in
+      let answer = (asked.ran.outcome image state (ran.kept.seen image i) h1).reply_is in
+      let b = billed (bookings_of state id) n (number_is (option_map bill_of (bookings_of state id)) (Some n) answer) in
+      outcome_is (mem s3 image) (length image) (leave state id) (step state (command.DropCustomer id)).0
       (reply.Number (Some n))
-      (leave_is state id n b) (ran.outcome image state i h1 seat).state;
+      (leave_is state id n b) (ran.outcome image state i h2).state;
 }
 
 -- an update has at most 32 changes

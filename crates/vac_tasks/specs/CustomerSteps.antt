@@ -1,14 +1,13 @@
 -- The conditions and effects of the steps of commands on customers.
-use Rattle.std.specs.Prelude.{◌≡◌, ◌≢◌, ℕ, ◌+◌, ◌-◌, ◌≤◌, List, ◌∷◌, length, Some, true}
+use Rattle.std.specs.Prelude.{◌≡◌, ◌≢◌, ℕ, ◌-◌, ◌≤◌, List, ◌∷◌, length, Some, true}
 use Rattle.std.specs.FinMap.{empty, entries, len}
-use Rattle.std.specs.Option.{option_map}
 use Rattle.tx_memory.specs.View.{View, Sees, RestsOn, Kept}
 use Rattle.vac_model.specs.declared.commands.Command.{Command}
 use Rattle.vac_model.specs.declared.commands.Command.TheVariants.{DropCustomer}
 use Rattle.vac_model.specs.declared.items.Booking.{Booking}
 use Rattle.vac_model.specs.declared.items.Kind.{Kind}
 use Rattle.vac_model.specs.declared.replies.Reply.{Reply}
-use Rattle.vac_model.specs.State.{State, Bookings, Place, bookings_of, bill_of}
+use Rattle.vac_model.specs.State.{State, Bookings, Place, bookings_of}
 use Rattle.vac_model.specs.Step.{step, drop_customer}
 use Rattle.vac_model.specs.Ranges.{is_command}
 use Rattle.vac_bookings.specs.Lists.{SomeBooking}
@@ -92,43 +91,31 @@ pub record PlaceRead (s s' : View) (b : ℕ) (place : Place) : Type 0 where
   pub writes : s'.writes ≡ s.writes
   pub is : (image : List ℕ) → Sees s' image → place_in (mem s image) b ≡ place
 
--- the customer has this bill
-abbrev pub HasBill : State → ℕ → ℕ → Type 0
-HasBill s id bill = option_map bill_of (bookings_of s id) ≡ Some bill
-
 -- the memory represents a state in which the customer, still in block c, has at most this number
--- of bookings. DropCustomer leads from that state to the same outcome as from s. The customer's
--- bill in s is `paid` more than the bill now
-pub record IsLeaving (m : ℕ → ℕ) (n : ℕ) (s : State) (id c most paid : ℕ) : Type 0 where
+-- of bookings. DropCustomer leads from that state to the same outcome as from s
+pub record IsLeaving (m : ℕ → ℕ) (n : ℕ) (s : State) (id c most : ℕ) : Type 0 where
   pub state : State
   pub is : IsState m n state
   pub seat : customer_block is id ≡ c
   pub bookings : Bookings
   pub there : bookings_of state id ≡ Some bookings
   pub few : len bookings ≤ most
-  pub bill : HasBill s id (paid + bill_of bookings)
   pub drops : drop_customer state id ≡ drop_customer s id
 
 -- under each possible image on which the customer is in block c, and b is the block of the first
--- booking, one booking was given back, whose units cost `sum`
-pub record OneGivenBack (s s' : View) (id c b sum : ℕ) : Type 0 where
+-- booking, one booking was given back
+pub record OneGivenBack (s s' : View) (id c b : ℕ) : Type 0 where
   pub kept : Kept s s'
   pub under : (image : List ℕ) (state : State) (bookings : Bookings) → Sees s' image →
       (h : IsState (mem s image) (length image) state) → customer_block h id ≡ c →
       mem s image (head_of c) ≡ b → HasFirst (mem s image) (length image) state id b →
       bookings_of state id ≡ Some bookings →
-      IsLeaving (mem s' image) (length image) state id c (len bookings - 1) sum
+      IsLeaving (mem s' image) (length image) state id c (len bookings - 1)
 
 -- under each possible image on which the customer is in block c, bookings were given back until at
--- most this number was left. Their units cost `paid`
-pub record GivenBack (s s' : View) (id c most paid : ℕ) : Type 0 where
+-- most this number was left
+pub record GivenBack (s s' : View) (id c most : ℕ) : Type 0 where
   pub kept : Kept s s'
   pub under : (image : List ℕ) (state : State) → Sees s' image →
       (h : IsState (mem s image) (length image) state) → customer_block h id ≡ c →
-      IsLeaving (mem s' image) (length image) state id c most paid
-
--- under each possible image on which the customer was in block c, this was the customer's bill
-pub record HadBill (s s' : View) (id c bill : ℕ) : Type 0 where
-  pub is : (image : List ℕ) (state : State) → Sees s' image →
-      (h : IsState (mem s image) (length image) state) → customer_block h id ≡ c →
-      HasBill state id bill
+      IsLeaving (mem s' image) (length image) state id c most

@@ -5,7 +5,7 @@ ghost use Rattle.vac_model.specs.Ranges.{is_command};
 ghost use Rattle.vac_bookings.specs.Lists.{HasBooking};
 ghost use Rattle.vac_records.specs.InMemory.{HoldsState};
 ghost use Rattle.vac_tasks.specs.Entries.{CustomerIsAt, CustomerIsMissing};
-ghost use Rattle.vac_tasks.specs.CustomerSteps.{RanOn, ItemsStayOn, HasSeat, HasNoBookings, CanDrop, CanCancelFirst, PlaceRead, OneGivenBack, GivenBack, HadBill};
+ghost use Rattle.vac_tasks.specs.CustomerSteps.{RanOn, ItemsStayOn, HasSeat, HasNoBookings, CanDrop, CanCancelFirst, PlaceRead, OneGivenBack, GivenBack};
 ghost use Rattle.vac_tasks.specs.Ran.{CanRun, Ran, RanQuestion, CustomerGone, joining};
 
 use crate::bookings::{CustomerAt, ItemAt, cancel_at};
@@ -15,7 +15,7 @@ use tx_alloc::{Block, FreeList, give, take_refilling};
 use tx_memory::{TxMem, TxRead, load};
 use vac_bookings::Spot;
 use vac_model::{Command, Kind, Refusal, Reply};
-use vac_records::{CUSTOMERS, init_customer, place, sum_at};
+use vac_records::{CUSTOMERS, init_customer, place};
 
 /// Makes a customer without bookings, in a block of the first free list that has one, beginning
 /// with list `start`. If list `start` is exhausted, it is refilled.
@@ -109,73 +109,66 @@ pub fn drop_customer<M: TxMem>(memory: &mut M, id: u32, start: FreeList) -> Resu
     Ok(Reply::Done)
 }
 
-/// Removes a customer as `drop_customer` does, at the customer's block. Returns the customer's
-/// bill, the sum of the prices at which the units were booked that are given back.
+/// Removes a customer as `drop_customer` does, at the customer's block.
 pub fn drop_customer_at<M: TxMem>(
     memory: &mut M,
     id: u32,
     customer: Block,
     start: FreeList,
-) -> Result<u64, M::Stop>
+) -> Result<(), M::Stop>
     requires state { HoldsState (M.view memory.old) }
     requires customer { CustomerIsAt (M.view memory.old) id customer }
     requires range { is_command (Command.DropCustomer id) ≡ true }
     ensures origin { M.origin memory.new ≡ M.origin memory.old }
     ensures answer { IfOk result (λ _. RanOn (M.view memory.old) (M.view memory.new)
         id customer (Command.DropCustomer id) Reply.Done) }
-    ensures bill { IfOk result (λ n. HadBill (M.view memory.old) (M.view memory.new)
-        id customer n) }
 {
     let who = CustomerAt {
         customer: id,
         owner: customer,
     };
-    let bill = give_bookings_back(memory, who, start)?;
+    give_bookings_back(memory, who, start)?;
     remove_customer(memory, id, start)?;
-    Ok(bill)
+    Ok(())
 }
 
-/// Cancels the customer's first booking until none is left. Returns the sum of the prices of all
-/// units. Bounded loop: the prover needs a measure; a customer has no more bookings than a heap
-/// has blocks.
+/// Cancels the customer's first booking until none is left. Bounded loop: the prover needs a
+/// measure; a customer has no more bookings than a heap has blocks.
 fn give_bookings_back<M: TxMem>(
     memory: &mut M,
     who: CustomerAt,
     start: FreeList,
-) -> Result<u64, M::Stop>
+) -> Result<(), M::Stop>
     requires { CanDrop (M.view memory.old) who }
     ensures origin { M.origin memory.new ≡ M.origin memory.old }
-    ensures answer { IfOk result (λ paid. GivenBack (M.view memory.old) (M.view memory.new)
-        who.customer who.owner 0 paid) }
+    ensures answer { IfOk result (λ _. GivenBack (M.view memory.old) (M.view memory.new)
+        who.customer who.owner 0) }
 {
     let head = who.owner.word(place::BOOKINGS);
-    let mut paid = 0;
     for _ in 0..MOST_BLOCKS {
         let Some(booking) = vac_bookings::first(memory, head)? else {
-            return Ok(paid);
+            return Ok(());
         };
-        let sum = cancel_first(memory, who.customer, who.owner, booking, start)?;
-        paid += sum;
+        cancel_first(memory, who.customer, who.owner, booking, start)?;
     }
-    Ok(paid)
+    Ok(())
 }
 
-/// Cancels the customer's first booking, by its block, and returns the sum of the prices of its
-/// units. The list is not walked, because its head leads to the booking.
+/// Cancels the customer's first booking, by its block. The list is not walked, because its head
+/// leads to the booking.
 fn cancel_first<M: TxMem>(
     memory: &mut M,
     id: u32,
     customer: Block,
     booking: Block,
     start: FreeList,
-) -> Result<u64, M::Stop>
+) -> Result<(), M::Stop>
     requires { CanCancelFirst (M.view memory.old) id customer booking }
     ensures origin { M.origin memory.new ≡ M.origin memory.old }
-    ensures answer { IfOk result (λ sum. OneGivenBack (M.view memory.old) (M.view memory.new)
-        id customer booking sum) }
+    ensures answer { IfOk result (λ _. OneGivenBack (M.view memory.old) (M.view memory.new)
+        id customer booking) }
 {
     let (kind, item_id) = place_at(memory, booking)?;
-    let sum = sum_at(memory, booking)?;
     match find_item(memory, kind, item_id)? {
         None => unreachable!(),
         Some(item) => {
@@ -194,7 +187,7 @@ fn cancel_first<M: TxMem>(
                 item,
             };
             cancel_at(memory, who, what, spot, start)?;
-            Ok(sum)
+            Ok(())
         }
     }
 }

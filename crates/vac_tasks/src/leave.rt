@@ -5,7 +5,7 @@ ghost use Rattle.vac_model.specs.Ranges.{is_task};
 ghost use Rattle.vac_records.specs.InMemory.{HoldsState};
 ghost use Rattle.vac_tasks.specs.RanTask.{RanTask};
 
-use crate::customers::drop_customer_at;
+use crate::customers::{bill_at, drop_customer_at};
 use crate::find::find_customer;
 use tx_alloc::FreeList;
 use tx_memory::TxMem;
@@ -26,6 +26,7 @@ pub(crate) fn leave<M: TxMem>(
     let Some(owner) = find_customer(memory, customer)? else {
         return Ok(Reply::Number(None));
     };
-    let bill = drop_customer_at(memory, customer, owner, start)?;
+    let bill = bill_at(memory, customer, owner)?;
+    drop_customer_at(memory, customer, owner, start)?;
     Ok(Reply::Number(Some(bill)))
 }

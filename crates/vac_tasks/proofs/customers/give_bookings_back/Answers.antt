@@ -1,7 +1,7 @@
 use Rattle.std.proofs.Common.{◌+◌, ◌-◌, refl, ◌∙◌, arith}
 use Rattle.vac_tasks.proofs.Held.{held_on, customer_is_on}
 use Rattle.vac_tasks.proofs.Leaving.{all_left, bookings_held, none_first, starts_at, first_found_at, given_read}
-use Rattle.vac_tasks.proofs.Leaving.{given_one, paid_fits}
+use Rattle.vac_tasks.proofs.Leaving.{given_one}
 use Rattle.vac_tasks.proofs.Parting.{given_holds, given_seat}
 use Rattle.vac_tasks.proofs.customers.give_bookings_back.Goals as goal
 
@@ -21,7 +21,7 @@ first-requires g c = record {
 
 pub returns-in_default-clause-answer : goal.returns-in_default-clause-answer
 returns-in_default-clause-answer g c =
-    none_first _ _ _ _ _ _ _ _ c.word-head.ensures c.loop.invariant.customer.some
+    none_first _ _ _ _ _ _ _ c.word-head.ensures c.loop.invariant.customer.some
     (rw c.in_default.is at c.in_ok-booking.ensures.answer) c.loop.invariant.given
 
 pub cancel_first-requires : goal.cancel_first-requires
@@ -39,29 +39,17 @@ cancel_first-requires g c =
       range = c.requires.range;
     }
 
-pub overflow_add-paid : goal.overflow_add-paid
-overflow_add-paid g c =
-    let f = c.in_ok-booking.ensures.answer in
-    let given = given_one _ _ _ _ _ _ _ (262144 - (c.loop.counter + 1)) _ _ (omega arith)
-    (given_read _ _ _ _ _ _ _ (record { kept = f.kept; writes = f.writes }) c.loop.invariant.given)
-    (first_found_at _ _ _ _ _ _ c.word-head.ensures c.requires.customer.some
-    (rw c.in-Some.is at c.in_ok-booking.ensures.answer))
-    c.in_ok-sum.ensures.answer in
-    let small = paid_fits _ _ _ _ _ _ c.requires.state c.requires.customer given
-    (g.met.M.TxRead.seen c.cancel_first.new.memory) in
-    omega (arith, small)
-
 pub loop-preserved : goal.loop-preserved
 loop-preserved g c =
     let f = c.in_ok-booking.ensures.answer in
-    let given = given_one _ _ _ _ _ _ _ (262144 - (c.loop.counter + 1)) _ _ (omega arith)
-    (given_read _ _ _ _ _ _ _ (record { kept = f.kept; writes = f.writes }) c.loop.invariant.given)
+    let given = given_one _ _ _ _ _ _ _ (262144 - (c.loop.counter + 1)) (omega arith)
+    (given_read _ _ _ _ _ _ (record { kept = f.kept; writes = f.writes }) c.loop.invariant.given)
     (first_found_at _ _ _ _ _ _ c.word-head.ensures c.requires.customer.some
     (rw c.in-Some.is at c.in_ok-booking.ensures.answer))
-    c.in_ok-sum.ensures.answer in
+    c.in_ok-cancel_first.ensures.answer in
     record {
-      origin = c.in_ok-sum.ensures.origin ∙ (c.in_ok-booking.ensures.origin ∙ c.loop.invariant.origin);
-      state = given_holds _ _ _ _ _ _ c.requires.state c.requires.customer given;
-      customer = given_seat _ _ _ _ _ _ c.requires.state c.requires.customer given;
+      origin = c.in_ok-cancel_first.ensures.origin ∙ (c.in_ok-booking.ensures.origin ∙ c.loop.invariant.origin);
+      state = given_holds _ _ _ _ _ c.requires.state c.requires.customer given;
+      customer = given_seat _ _ _ _ _ c.requires.state c.requires.customer given;
       given = given;
     }

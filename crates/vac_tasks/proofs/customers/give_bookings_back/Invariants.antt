@@ -10,5 +10,5 @@ invariant-loop g l = record {
   state : HoldsState (g.M.TxRead.view l.memory);
   customer : CustomerIsAt (g.M.TxRead.view l.memory) l.fn.who.customer l.fn.who.owner;
   given : GivenBack (g.M.TxRead.view l.fn.memory) (g.M.TxRead.view l.memory) l.fn.who.customer l.fn.who.owner
-      (262144 - l.counter) l.paid;
+      (262144 - l.counter);
 }
