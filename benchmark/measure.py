@@ -499,8 +499,6 @@ def program_to_measure(given):
     for subcommand, option in (("tasks", "--clients"), ("load", "--stats")):
         if not has_option(program, subcommand, option):
             give_up(f"this program has no '{subcommand}' with '{option}'")
-    if not os.access(judge_beside(program), os.X_OK):
-        give_up(f"there is no program at {judge_beside(program)}")
     return program
 
 
@@ -541,7 +539,10 @@ def main():
     load = os.getloadavg()[0]
     if load > 0.5:
         say(f"the machine is not quiet (load average {load:.1f}): the numbers will be lower")
-    plan = Plan(arguments, program_to_measure(arguments.program))
+    program = program_to_measure(arguments.program)
+    if not os.access(judge_beside(program), os.X_OK):
+        give_up(f"there is no program at {judge_beside(program)}")
+    plan = Plan(arguments, program)
     found, times = measure_all(plan)
     lines = write_all(arguments.to, plan, found, times, load)
     if arguments.pages:

@@ -264,7 +264,7 @@ def shown(page):
 
 def options_of(ours):
     """The options that each subcommand's help names."""
-    commands = re.findall(r"^  (\w+) ", run(*ours, "--help"), flags=re.M)
+    commands = re.findall(r"^  (\w+) ", run(*ours, "--help").split("Options:")[0], flags=re.M)
     return {command: re.findall(r"(--[\w-]+)", run(*ours, command, "--help").split("Options:")[1])
             for command in commands if command != "help"}
 
