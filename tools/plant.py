@@ -2,10 +2,11 @@
 """Tries the mutants of tests/plants, each in a copy of its crate, and tells what refuses it. Called by `./dev mutate`, and
 by ./test for the mutants of the gate. tools/mutants.py says how the lists are written.
 
-A mutant is shown if the prover leaves a goal of its body open: a clause, what a call requires, or safety. A mutant is not
-shown if only an answer by hand no longer fits and the goals are proved without that answer, or if the prover met a limit:
-the contract may allow the body then. A result is kept in tests/plants/CRATE.shown (tools/shown.py), and the mutant is
-tried again once a text has changed that the result rests on."""
+A mutant is shown if the prover leaves a goal of its body open: of a clause, of what a call requires, or of safety. A
+mutant is not shown if the prover met a limit, or if only answers by hand no longer fit: if no other goals are open than
+theirs, and the prover knows no values at which one of them is false. The contract may allow the body then. A result is
+kept in tests/plants/CRATE.shown (tools/shown.py), and the mutant is tried again once a text has changed that the result
+rests on."""
 
 import argparse
 import os
