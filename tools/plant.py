@@ -2,10 +2,11 @@
 """Tries the mutants of tests/plants, each in a copy of its crate, and tells what refuses it. Called by `./dev mutate`, and
 by ./test for the mutants of the gate. tools/mutants.py says how the lists are written.
 
-A mutant is shown if the prover leaves a goal of its body open: a clause, what a call requires, or safety. A mutant is not
-shown if only an answer by hand no longer fits and the goals are proved without that answer, or if the prover met a limit:
-the contract may allow the body then. A result is kept in tests/plants/CRATE.shown (tools/shown.py), and the mutant is
-tried again once a text has changed that the result rests on."""
+A mutant is shown if the prover leaves a goal of its body open: of a clause, of what a call requires, or of safety. A
+mutant is not shown if the prover met a limit, or if only answers by hand no longer fit: if no other goals are open than
+theirs, and the prover knows no values at which one of them is false. The contract may allow the body then. A result is
+kept in tests/plants/CRATE.shown (tools/shown.py), and the mutant is tried again once a text has changed that the result
+rests on."""
 
 import argparse
 import os
@@ -24,7 +25,7 @@ from build_program import Building, kit_module
 from gate_builds import stand_on_gate
 from ledger import ROOT
 from mutants import batches, planted, read_lists, stale_labels
-from shown import Shown
+from shown import Shown, tree
 
 PARTS = ("src", "specs", "proofs")
 # How often a batch is checked without the answers by hand that no longer fit, and the memory that a prover may take.
@@ -299,7 +300,7 @@ class Report:
         self.options = options
         self.names = {crate: {m.name for m in mutants if m.crate == crate} for crate in {m.crate for m in mutants}}
         self.shown = {crate: Shown(crate) for crate in self.names}
-        self.counts, self.seconds = {}, Counter()
+        self.counts, self.seconds, self.tree = {}, Counter(), tree()
 
     def known(self, mutant):
         """Takes a mutant's result from an earlier run, if it still stands. Returns whether it did."""
@@ -314,9 +315,9 @@ class Report:
         return True
 
     def tell(self, mutant, came_to, shown):
-        """Keeps a result, unless it is a fault, tells it and counts it."""
+        """Keeps a result, unless it is a fault or a text has changed since the run began, tells it and counts it."""
         meant, why = as_meant(mutant, came_to, shown, self.options.rows)
-        if came_to in WORDS and meant not in FAILED:
+        if came_to in WORDS and meant not in FAILED and self.tree == tree():
             goal = "" if came_to == PROVED else (shown or [""])[0][:100]
             self.shown[mutant.crate].keep(mutant, WORDS[came_to], goal, self.names[mutant.crate])
         print(f"{mutant}: {meant}", flush=True)

@@ -117,6 +117,13 @@ def stands_on(plant):
     return sum_of(base_of(plant.crate), plant.name, [tuple(edit) for edit in plant.edits])
 
 
+def tree():
+    """What tells whether a text of the crates was changed, as those that are read here are remembered."""
+    folders = [crate / part for crate in ledger.CRATES.iterdir() for part in ("src", "specs", "proofs")]
+    found = [(str(path), path.stat()) for folder in folders for path in folder.rglob("*.*")]
+    return {name: (stat.st_mtime_ns, stat.st_size) for name, stat in found}
+
+
 class Shown:
     """The kept results of one crate's mutants: lines by name, each with outcome, sum and goal."""
 
