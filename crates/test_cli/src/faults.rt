@@ -55,10 +55,11 @@ const ROWS: [Row; 4] = [
         fault: 1,
     },
     Row {
-        words: &["vacation", "part", "--customer", "3"],
+        words: &["judge", "part", "--customer", "3"],
         input: CALLS,
         output: b"1 0 5 newcust 3 -> true\n1 7 9 leave 3 -> 0\n",
         first: b"1 0 5 n",
+        fault: 4,
     },
 ];
 
