@@ -433,7 +433,9 @@ def main():
     print(f"plant: {len(left)} tried in {spent}; in all {told or 'none'}")
     failed = sum(total[kind] for kind in FAILED)
     if options.gate:
-        print(f"{total.total() - failed} passed, {failed} failed")
+        # (as with rt ci: an edit that can't be read counts for nothing)
+        failed = total[PROVED]
+        print(f"{total.total() - sum(total[kind] for kind in FAILED)} passed, {failed} failed")
     sys.exit(1 if failed else 0)
 
 
