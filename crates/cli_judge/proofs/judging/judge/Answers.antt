@@ -27,7 +27,8 @@ returns-clause-judged g c =
 
 pub returns-clause-reported : goal.returns-clause-reported
 returns-clause-reported g c =
-    reports_asked _ _ _ _ (sym c.refusal_of.ensures ∙ ap is_some c.in_default.is)
+    reports_asked c.args.how c.judge_as-status.result (g.E.Write.contents c.args.errors.now)
+    (g.E.Write.contents c.report_calls.new.errors) (sym c.refusal_of.ensures ∙ ap is_some c.in_default.is)
     (subst (λ (has_workload : Bool). ReportsBeside c.args.how.search.progress c.args.how.search.stats has_workload
     c.judge_as-status.result (g.E.Write.contents c.args.errors.now) (g.E.Write.contents c.report_calls.new.errors))
     c.is_some.ensures
