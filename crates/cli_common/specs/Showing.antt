@@ -1,4 +1,4 @@
--- What a program shows instead of its work: the help, its version, or the refusal of its words.
+-- Texts that a program shows instead of its work: help, version, or the refusal of the words.
 use Rattle.std.specs.Prelude.{◌≡◌, ◌⊎◌, ℕ, Option, List}
 use Rattle.std.specs.Io.KnownBytes.{Appends}
 use Rattle.clap.specs.declared.error.kind.ErrorKind.{ErrorKind}
