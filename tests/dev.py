@@ -14,7 +14,7 @@ from pathlib import Path
 ROOT = Path(__file__).resolve().parent.parent
 PATIENCE = 120
 # The commands whose tools have a help of their own.
-WITH_HELP = ("bench", "time", "profile", "mutate", "sizes", "ledger")
+WITH_HELP = ("bench", "time", "profile", "mutate", "sizes", "contracts")
 faults = []
 
 
@@ -62,6 +62,20 @@ def holds_toolchains(folder):
     status, _, text = dev("unproved", str(folder / "program"), path=str(folder))
     want(status == 1 and "not as this script knows them" in text, f"an unproved build: status {status}, {text!r}")
 
+
+# A crate, and a line of a mutant of it that names nothing.
+STALE_LABELS = [
+    ("stm_core", "clause of the version's new"),
+    ("stm_core", "clause of Version::free"),
+    ("stm_core", "clause `free` of Version::new"),
+    ("ex_bank", "clause `told` of Move::run: its trait has no such clause"),
+    ("load_record", "clause `heard` of Observed: it has no such ghost field"),
+    ("cli_main", "row test_cli: writes_that_fail"),
+    ("cli_main", "row test_cli: flushes_that_fail: two tests have this name"),
+    ("cli_main", "row test_cli: work::flushes_that_fail: it stands in two other modules"),
+    ("cli_main", "row test_stm: a_cleared_write_log_keeps_its_memory: its crate does not stand on this one"),
+    ("cli_main", "script tests/kinds"),
+]
 
 # A library, and changes of it: a result of a mutant above it outlives the first ones, and not the others.
 LIBRARY = """//! A counter.
@@ -128,6 +142,14 @@ def holds_mutants(folder):
         want(came_to == getattr(plant, kind), f"a check that says {said!r} comes to {came_to}, and not to {kind}")
 
 
+def holds_labels():
+    """The look-up of what is to refuse a mutant knows what is not there."""
+    import mutants
+
+    for crate, by in STALE_LABELS:
+        want(mutants.stale(crate, by) is not None, f"this names nothing, and is taken for good: {crate}: {by}")
+
+
 def tracked():
     """The files of the tree, without those of folders that are made."""
     git = ["git", "-c", f"safe.directory={ROOT}", "ls-files", "--cached", "--others", "--exclude-standard"]
@@ -171,6 +193,7 @@ def main():
     with tempfile.TemporaryDirectory() as folder:
         holds_toolchains(Path(folder))
         holds_mutants(Path(folder))
+    holds_labels()
     holds_linters()
     for text in faults:
         print(f"dev: {text}", file=sys.stderr)

@@ -13,7 +13,7 @@ from pathlib import Path
 ROOT = Path(__file__).resolve().parent.parent
 sys.path.insert(0, str(ROOT / "tools"))
 
-import ledger
+import crate_pages
 import sizes
 
 PAGES = sorted([*ROOT.glob("*.md"), *(ROOT / "docs").glob("*.md")])
@@ -110,7 +110,7 @@ def holds_pieces(page):
 
 
 def holds_clauses():
-    """The snapshot of clauses has just those of the tree."""
+    """The snapshot of clauses has just those of the tree, and the sizes of the promises are those that are counted."""
     script = ROOT / "tools" / "contracts.py"
     told = subprocess.run([sys.executable, str(script), "--check"], capture_output=True, text=True)
     if told.returncode != 0:
@@ -118,13 +118,12 @@ def holds_clauses():
 
 
 def holds_plants():
-    """Each plant fits the tree, and what must refuse it is there; and the look-up knows what is not."""
-    for script, *options in (["plant.py", "--check"], ["labels.py"]):
-        script = ROOT / "tools" / script
-        told = subprocess.run([sys.executable, str(script), *options], capture_output=True, text=True)
-        if told.returncode != 0:
-            for line in told.stdout.splitlines() or ["it did not come to its end"]:
-                fault(script, line)
+    """Each mutant fits the tree, and what must refuse it is there."""
+    script = ROOT / "tools" / "plant.py"
+    told = subprocess.run([sys.executable, str(script), "--check"], capture_output=True, text=True)
+    if told.returncode != 0:
+        for line in told.stdout.splitlines() or ["it did not come to its end"]:
+            fault(script, line)
 
 
 def words(text):
@@ -156,21 +155,13 @@ def holds_links(page):
             fault(page, f"a link leads to no heading: {target}")
 
 
-def holds_sizes():
-    """The sizes of the statements are those that their script counts."""
-    script = ROOT / "tools" / "budget.py"
-    told = subprocess.run([sys.executable, str(script), "--check"], capture_output=True, text=True)
-    if told.returncode != 0:
-        fault(script, told.stdout.strip() or told.stderr.strip() or "it did not come to its end")
-
-
 def holds_lines_of_libraries():
     """The lines of the libraries that README.md gives are those that are counted, within a twentieth."""
     page = ROOT / "README.md"
     told = re.search(r"have ([\d,]+) lines of bodies\. Their contracts have ([\d,]+) lines, the definitions that they "
                      r"cite ([\d,]+), and the proofs ([\d,]+)\.", page.read_text())
     found = [int(number.replace(",", "")) for number in told.groups()] if told else []
-    counted = sizes.program_sizes(ROOT, ledger.functions)
+    counted = sizes.program_sizes(ROOT)
     want = [counted.bodies, counted.contracts, counted.specs, counted.proofs]
     if not found or any(20 * abs(one - other) > other for one, other in zip(found, want)):
         fault(page, f"lines of bodies, contracts, definitions and proofs of the libraries: {want}, not {found}")
@@ -189,9 +180,9 @@ def holds_sentences():
     """No sentence of a page by hand, or on what is not said, is longer than the limit."""
     found = [(page, text) for page in PAGES if page.name not in LONG_STILL
              for text in sentences(without_code(page))]
-    for name, made in ledger.pages().items():
+    for name, made in crate_pages.pages().items():
         for line in re.findall(r"^ *- Not said(?: by [^:]*)?: (.*)$", made, flags=re.M):
-            found += [(ledger.PAGES / name, text) for text in sentences(line)]
+            found += [(crate_pages.PAGES / name, text) for text in sentences(line)]
     for page, text in found:
         if words(text) > LONGEST:
             fault(page, f"a sentence of {words(text)} words: {text[:60]} ..")
@@ -210,7 +201,7 @@ def holds_modules():
 
 def holds_walks():
     """Checks that in the three walks of the page on architecture each function calls the next one."""
-    for text in sizes.walk_faults(ROOT, ledger):
+    for text in sizes.walk_faults(ROOT):
         fault(ROOT / "docs" / "ARCHITECTURE.md", text)
     if len(sizes.walks(ROOT)) != 3:
         fault(ROOT / "docs" / "ARCHITECTURE.md", "the three walks are not there")
@@ -277,7 +268,6 @@ def main():
         holds_pieces(page)
         holds_links(page)
     holds_clauses()
-    holds_sizes()
     holds_lines_of_libraries()
     holds_plants()
     holds_sentences()

@@ -1,26 +1,17 @@
-#!/usr/bin/env python3
 """Counts what a reader has to read to understand each promise of docs/PROMISES.md.
 
-The statement of a promise is the contract of the functions that its line `Contract:` names. The closure of
-that contract is every definition of `specs/` that a clause cites, that such a definition cites, and so on.
-This script counts the definitions of each closure, their lines, and the files and crates that have them.
-
-    tools/budget.py                 the table of all promises
-    tools/budget.py N               the definitions of promise N, in the order of reading
-    tools/budget.py CRATE FUNCTION  the same for the contract of one function (`Type::name` for a method)
-    tools/budget.py --write         writes the table into docs/PROMISES.md
-    tools/budget.py --check         compares the table in docs/PROMISES.md with the tree; status 1 if it differs
-
-Not counted: the kit's own definitions, the types that Rattle makes of Rust types (`specs.declared`), comments
-and blank lines."""
+The statement of a promise is the contract of the functions that its line `Contract:` names. The closure of that contract
+is every definition of `specs/` that a clause cites, that such a definition cites, and so on. Counted are the definitions
+of each closure, their lines, and the files and crates that have them. The kit's own definitions, the types that Rattle
+makes of Rust types (`specs.declared`), comments and blank lines do not count."""
 
 import re
 import sys
 from dataclasses import dataclass, field
 
-import ledger
+import rattle
 
-PAGE = ledger.ROOT / "docs" / "PROMISES.md"
+PROMISES = rattle.ROOT / "docs" / "PROMISES.md"
 HEAD = "| Promise | Definitions | Lines | Files | Crates |\n|---|--:|--:|--:|--:|\n"
 PROMISE = re.compile(r"^## (\d+)\. (.*)$", re.M)
 CONTRACT = re.compile(r"^- Contract: (.*)$", re.M)
@@ -69,7 +60,7 @@ def contracts_in(text):
 
 def promises():
     """The promises of the page, each with its contracts. `the same` repeats those of the promise before."""
-    text = ledger.read(PAGE)
+    text = rattle.read(PROMISES)
     heads = list(PROMISE.finditer(text))
     found = []
     for head, after in zip(heads, [*heads[1:], None]):
@@ -86,22 +77,22 @@ def promises():
 def function_named(crate, name):
     """The functions of a crate with this name, or with this type and name."""
     owner, _, last = name.rpartition("::")
-    here = [function for file in ledger.sources(crate) for function in ledger.functions(file)
+    here = [function for file in rattle.sources(crate) for function in rattle.functions(file)
             if function.name == last and owner in ("", function.owner) and function.clauses]
     if not here:
-        sys.exit(f"budget: {crate} has no function {name} with a contract")
+        sys.exit(f"contracts: {crate} has no function {name} with a contract")
     return here
 
 
 def cites(file, text):
     """The definitions that a text of this file names outside of comments, each once."""
-    names = ledger.imported(file)
+    names = rattle.imported(file)
     text = COMMENT.sub("", text)
-    return list({word: names[word] for word in ledger.WORD.findall(text) if word in names}.values())
+    return list({word: names[word] for word in rattle.WORD.findall(text) if word in names}.values())
 
 
-def closure_of(functions, but=()):
-    """Every definition that the contracts of these functions rest on, without those named in `but`, in the order of
+def closure_of(functions):
+    """Every definition that the contracts of these functions rest on, in the order of
     reading: crates in the order of crates.txt, files by name, definitions as they stand."""
     pending = [definition for function in functions for clause in function.clauses
                for definition in cites(function.file, clause.text)]
@@ -109,24 +100,25 @@ def closure_of(functions, but=()):
     while pending:
         definition = pending.pop()
         key = definition.file, definition.name
-        if key not in found and definition.name not in but:
+        if key not in found:
             found[key] = definition
             pending += cites(definition.file, definition.body)
-    order = {crate: place for place, crate in enumerate(ledger.listed_crates())}
+    order = {crate: place for place, crate in enumerate(rattle.listed_crates())}
     places = {key: place for path in {key[0] for key in found}
-              for place, key in enumerate((path, name) for name in ledger.definitions(path))}
+              for place, key in enumerate((path, name) for name in rattle.definitions(path))}
     return Closure([found[key] for key in sorted(
         found, key=lambda key: (order[found[key].crate], str(key[0]), places[key]))])
 
 
-def closure_of_promise(promise):
-    return closure_of([function for contract in promise.contracts for function in function_named(*contract)])
+def closure_of_contracts(contracts):
+    """The closure of the contracts of these functions, each named by its crate and its name."""
+    return closure_of([function for contract in contracts for function in function_named(*contract)])
 
 
 def table():
     rows = []
     for promise in promises():
-        closure = closure_of_promise(promise)
+        closure = closure_of_contracts(promise.contracts)
         rows.append(f"| {promise.number}. {promise.title} | {len(closure.definitions)} | {closure.lines()} "
                     f"| {len(closure.files())} | {len(closure.crates())} |\n")
     return HEAD + "".join(rows)
@@ -138,36 +130,32 @@ def table_of_page(text):
     return "" if start < 0 else text[start:].split("\n\n")[0].rstrip("\n") + "\n"
 
 
+def table_differs():
+    """Whether the table in docs/PROMISES.md is another than that of the tree."""
+    return table_of_page(rattle.read(PROMISES)) != table()
+
+
+def write_table():
+    """Writes the table into docs/PROMISES.md."""
+    text = PROMISES.read_text()
+    PROMISES.write_text(text.replace(table_of_page(text), table()))
+
+
+def closure_named(words):
+    """The closure of a promise, named by its number, or of the contract of a function, named by crate and name."""
+    match words:
+        case [number]:
+            chosen = [promise.contracts for promise in promises() if str(promise.number) == number]
+            return closure_of_contracts(chosen[0]) if chosen else sys.exit(f"contracts: there is no promise {number}")
+        case [crate, name]:
+            return closure_of_contracts([(crate, name)])
+        case _:
+            return sys.exit("contracts: --budget takes the number of a promise, or a crate and a function")
+
+
 def print_closure(closure):
     for definition in closure.definitions:
-        file = definition.file.relative_to(ledger.CRATES)
+        file = definition.file.relative_to(rattle.CRATES)
         print(f"{file}: {definition.name} ({code_lines(definition)})")
     print(f"{len(closure.definitions)} definitions, {closure.lines()} lines, {len(closure.files())} files, "
           f"{len(closure.crates())} crates")
-
-
-def main(words):
-    text = ledger.read(PAGE)
-    match words:
-        case []:
-            print(table(), end="")
-        case ["--write"]:
-            PAGE.write_text(text.replace(table_of_page(text), table()))
-        case ["--check"]:
-            if table_of_page(text) != table():
-                print(f"{PAGE.relative_to(ledger.ROOT)}: the sizes of the statements differ: tools/budget.py --write")
-                return 1
-        case [number] if number.isdigit():
-            chosen = [promise for promise in promises() if promise.number == int(number)]
-            if not chosen:
-                sys.exit(f"budget: there is no promise {number}")
-            print_closure(closure_of_promise(chosen[0]))
-        case [crate, name]:
-            print_closure(closure_of(function_named(crate, name)))
-        case _:
-            sys.exit(__doc__)
-    return 0
-
-
-if __name__ == "__main__":
-    sys.exit(main(sys.argv[1:]))

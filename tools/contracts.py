@@ -1,18 +1,12 @@
 #!/usr/bin/env python3
-"""Lists every clause of every public call, one on a line, so that two states of the tree can be compared. Then lists
-what each implementation of a trait states by `ghost NAME = {..}`, for example the text that a `Display` writes; crates
-`test_..` are left out.
+"""Reads the contracts of the tree: each clause of each public call, one on a line, and what each implementation of a trait
+states by `ghost NAME = {..}`, for example the text that a `Display` writes; crates `test_..` are left out of the latter.
 
-    tools/contracts.py                  all clauses: CRATE FUNCTION requires|ensures NAME: TEXT,
-                                        and CRATE TRAIT for TYPE states NAME: TEXT
-    tools/contracts.py --write          writes them into docs/clauses.txt, so that a review shows each clause that went
-    tools/contracts.py --check          compares docs/clauses.txt with the tree; status 1 if they differ
-    tools/contracts.py --since REV      what changed since a commit: clauses that went (-) and that came (+);
-                                        a clause that only moved to another crate or function is marked (=)
+A line is CRATE FUNCTION requires|ensures NAME: TEXT, or CRATE TRAIT for TYPE states NAME: TEXT. Definitions are not
+followed: a clause may say less though its text is the same. `--budget CRATE FUNCTION` lists what a contract rests on,
+and `git diff REV -- crates/*/specs` shows what changed there."""
 
-Definitions are not followed: a clause may say less though its text is the same. `tools/budget.py CRATE FUNCTION`
-lists what a contract rests on, and `git diff REV -- crates/*/specs` shows what changed there."""
-
+import argparse
 import subprocess
 import sys
 import tempfile
@@ -20,7 +14,9 @@ from collections import Counter
 from dataclasses import dataclass
 from pathlib import Path
 
-import ledger
+import budget
+import crate_pages
+import rattle
 
 TOP = Path(__file__).resolve().parent.parent
 SNAPSHOT = TOP / "docs" / "clauses.txt"
@@ -43,18 +39,14 @@ class Line:
 
 def lines_of(root):
     """The clauses of all public calls of the tree at this folder, and what its implementations state."""
-    ledger.ROOT, ledger.CRATES = root, root / "crates"
-    # What the ledger remembers is of the tree that it read before.
-    for remembered in vars(ledger).values():
-        if hasattr(remembered, "cache_clear"):
-            remembered.cache_clear()
+    rattle.read_tree(root)
     clauses = [Line(f"{crate} {function.title()}", clause.kind, clause.name, clause.text)
-               for crate in ledger.listed_crates() for file in ledger.sources(crate)
-               for function in ledger.functions(file) if ledger.is_public(function)
+               for crate in rattle.listed_crates() for file in rattle.sources(crate)
+               for function in rattle.functions(file) if rattle.is_public(function)
                for clause in function.clauses]
     return clauses + [Line(f"{crate} {stated.head}", "states", stated.name, stated.text)
-                      for crate in ledger.listed_crates() if not crate.startswith("test_")
-                      for file in ledger.sources(crate) for stated in ledger.statements(file)]
+                      for crate in rattle.listed_crates() if not crate.startswith("test_")
+                      for file in rattle.sources(crate) for stated in rattle.statements(file)]
 
 
 def lines_at(revision):
@@ -83,22 +75,48 @@ def snapshot():
     return "".join(f"{line}\n" for line in lines_of(TOP))
 
 
-def main(words):
-    match words:
-        case []:
-            print(snapshot(), end="")
-        case ["--write"]:
-            SNAPSHOT.write_text(snapshot(), encoding="utf-8")
-        case ["--check"]:
-            if not SNAPSHOT.is_file() or SNAPSHOT.read_text(encoding="utf-8") != snapshot():
-                sys.exit("docs/clauses.txt differs from the tree: compare the clauses by git diff after "
-                         "./dev contracts --write")
-        case ["--since", revision]:
-            before = lines_at(revision)
-            print_changes(before, lines_of(TOP))
-        case _:
-            sys.exit(__doc__)
+def check():
+    """Compares docs/clauses.txt, and the sizes of the promises in docs/PROMISES.md, with the tree."""
+    if not SNAPSHOT.is_file() or SNAPSHOT.read_text(encoding="utf-8") != snapshot():
+        sys.exit("docs/clauses.txt differs from the tree: compare the clauses by git diff after ./dev contracts --write")
+    if budget.table_differs():
+        sys.exit("docs/PROMISES.md: the sizes of the statements differ: ./dev contracts --write")
+
+
+def parser():
+    """The parser of the command line."""
+    options = argparse.ArgumentParser(prog="./dev contracts", description=__doc__,
+                                      formatter_class=argparse.RawDescriptionHelpFormatter)
+    kind = options.add_mutually_exclusive_group()
+    kind.add_argument("--write", action="store_true",
+                      help="write all clauses into docs/clauses.txt, and the sizes of the promises into docs/PROMISES.md")
+    kind.add_argument("--check", action="store_true", help="compare both pages with the tree; status 1 if they differ")
+    kind.add_argument("--since", metavar="REV", help="print clauses that went (-) and came (+) since a commit; a clause "
+                      "that only moved to another crate or function is marked (=)")
+    kind.add_argument("--budget", nargs="*", metavar="WORD", help="print how large the statement of each promise is, or "
+                      "the definitions of promise N, or of CRATE FUNCTION (Type::name), in the order of reading")
+    kind.add_argument("--pages", action="store_true", help="write out/contracts: what each crate promises")
+    return options
+
+
+def main():
+    words = parser().parse_args()
+    if words.write:
+        SNAPSHOT.write_text(snapshot(), encoding="utf-8")
+        budget.write_table()
+    elif words.check:
+        check()
+    elif words.since:
+        print_changes(lines_at(words.since), lines_of(TOP))
+    elif words.pages:
+        crate_pages.write_pages()
+    elif words.budget == []:
+        print(budget.table(), end="")
+    elif words.budget:
+        budget.print_closure(budget.closure_named(words.budget))
+    else:
+        print(snapshot(), end="")
 
 
 if __name__ == "__main__":
-    main(sys.argv[1:])
+    main()

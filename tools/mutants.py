@@ -21,13 +21,18 @@ import re
 from dataclasses import dataclass, field
 from functools import cached_property
 
-import ledger
-from labels import LABEL, functions_of, stale
-from ledger import CRATES, ROOT
+import rattle
+from rattle import CRATES, ROOT, below, closing, functions_of, masked, sources
 
 LISTS = ROOT / "tests" / "plants"
 MOST_AT_ONCE = 8
 FN = re.compile(r"^( *)(?:pub(?:\([^)]*\))? )?(?:const )?(?:unsafe )?fn (\w+)", re.M)
+
+
+LABEL = re.compile(r"(?:clause (?:`(?P<clause>\w+)` )?of (?P<owner>\w+::)?(?P<function>\w+)"
+                   r"|row (?P<rows>\w+): (?P<module>\w+::)?(?P<test>\w+)"
+                   r"|script tests/(?P<script>[\w.]+)"
+                   r"|harmless)(?:: .*)?")
 
 
 @dataclass
@@ -62,7 +67,7 @@ class Mutant:
         for file, old, _ in self.edits:
             path = CRATES / self.crate / file
             at = self.text_of(file).find(old)
-            around = [f for f in ledger.functions(path) if f.start <= at < f.end] if path.suffix == ".rt" else []
+            around = [f for f in rattle.functions(path) if f.start <= at < f.end] if path.suffix == ".rt" else []
             yield path, at, at + len(old), max(around, key=lambda f: f.start, default=None)
 
     @cached_property
@@ -165,6 +170,66 @@ def read_lists():
             faults.append(f"{mutant}: {why}")
         names.add(str(mutant))
     return mutants, faults
+
+
+def has_clause(crate, function, clause):
+    """Whether a function's contract, with what its trait gives it, has a clause of this name; or any, where none is
+    named. (A trait that stands in no crate of this repository may give it each.)"""
+    methods = [function]
+    if function.trait:
+        given = [f for other in below(crate) for f in functions_of(other).get(function.name, [])
+                 if f.owner == function.trait and not f.trait]
+        if not given:
+            return True
+        methods += given
+    names = {told.name for method in methods for told in method.clauses}
+    return clause in names if clause else bool(names)
+
+
+def has_ghost(crate, name, clause):
+    """Whether a struct of a crate has a clause of this name: a ghost field."""
+    for path in sources(crate):
+        found = re.search(rf"\bstruct {name}\b[^;{{]*\{{", masked(path))
+        if found:
+            inner = masked(path)[found.end():closing(masked(path), found.end() - 1)]
+            return re.search(rf"\bghost {clause}:", inner) is not None
+    return False
+
+
+def clause_is_there(crate, label):
+    """Whether a function of the crate has the clause, or, where it has none of the name, one of a crate below it; or a
+    struct of the crate."""
+    owner = (label["owner"] or "").rstrip(":")
+    found = [f for other in below(crate) for f in functions_of(other).get(label["function"], [])
+             if not owner or owner in (f.owner, f.trait)]
+    found = [f for f in found if f.crate == crate] or found
+    return (any(has_clause(crate, function, label["clause"]) for function in found)
+            or bool(label["clause"]) and has_ghost(crate, label["function"], label["clause"]))
+
+
+def tests_named(label):
+    """The tests of a crate of tests that have the name, in the module where one is named."""
+    module = (label["module"] or "").rstrip(":")
+    return [f for f in functions_of(label["rows"]).get(label["test"], [])
+            if f.test and (not module or f.file.stem == module)]
+
+
+def stale(crate, by):
+    """Why the line of a plant of this crate names nothing that stands here; none, where it does."""
+    label = LABEL.fullmatch(by)
+    if not label:
+        return f"this names nothing that could refuse it: {by[:60]}"
+    if label["function"] and not clause_is_there(crate, label):
+        return f"there is no {by.split(': ')[0]}"
+    if label["script"] and not (ROOT / "tests" / label["script"]).is_file():
+        return f"there is no script tests/{label['script']}"
+    if label["rows"]:
+        if not label["rows"].startswith("test_") or crate not in below(label["rows"]):
+            return f"there is no crate of tests {label['rows']} that stands on {crate}"
+        found = tests_named(label)
+        if len(found) != 1:
+            return f"{label['rows']} has {len(found)} tests of the name {label['test']}"
+    return None
 
 
 def stale_labels(mutants):

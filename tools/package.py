@@ -17,7 +17,7 @@ import time
 from pathlib import Path
 from shutil import which
 
-import ledger
+import crate_pages
 import manual
 
 ROOT = Path(__file__).resolve().parent.parent
@@ -114,7 +114,7 @@ A travel reservation system on a software transactional memory (`vacation`), and
 | the author of a transactional memory or a runtime | [Three steps](docs/JUDGE.md#three-steps), [A shared object](docs/JUDGE.md#a-shared-object) |
 | a database engineer | [Databases under faults](docs/DATABASES.md) |
 | somebody with logs of a key-value store or a map | [Judge etcd, Redis and lock-free maps](docs/JUDGE.md#judge-etcd-redis-and-lock-free-maps) |
-| a reader of the theorem | [Theorem](docs/THEOREM.md), [Promises](docs/PROMISES.md), [every clause](docs/clauses.txt), `docs/ledger` |
+| a reader of the theorem | [Theorem](docs/THEOREM.md), [Promises](docs/PROMISES.md), [every clause](docs/clauses.txt), `docs/contracts` |
 | a user of the programs | [Using the programs](docs/USING.md), [Rules](docs/RULES.md), `man -l share/man/man1/judge.1` |
 | somebody who doubts the numbers | [Measured](docs/MEASURED.md), [The benchmark](benchmark/README.md) |
 
@@ -138,8 +138,8 @@ def files_as_they_stand():
 
 def without_dead_links(name, text, packed):
     """The text of a page, in which links to what is not packed are plain words. A page by hand says where the
-    target is; the ledger has thousands of such links."""
-    elsewhere = "" if name.startswith("docs/ledger/") else ELSEWHERE
+    target is; the pages of the crates have thousands of such links."""
+    elsewhere = "" if name.startswith("docs/contracts/") else ELSEWHERE
 
     def kept(link):
         mark, words, target = link.groups()
@@ -152,9 +152,9 @@ def without_dead_links(name, text, packed):
 
 
 def pages():
-    """The pages that are packed, and the ledger, which is made here."""
+    """The pages that are packed, and those of the crates, which are made here."""
     found = {name: page(name) for name in ("benchmark/README.md", *(f"docs/{name}" for name in PAGES))}
-    found |= {f"docs/ledger/{name}": text for name, text in ledger.pages().items()}
+    found |= {f"docs/contracts/{name}": text for name, text in crate_pages.pages().items()}
     packed = {*found, *files_as_they_stand()}
     return {name: without_dead_links(name, text, packed) for name, text in found.items()}
 

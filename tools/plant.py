@@ -23,8 +23,8 @@ from pathlib import Path
 
 from build_program import Building, kit_module
 from gate_builds import stand_on_gate
-from ledger import ROOT
 from mutants import batches, planted, read_lists, stale_labels
+from rattle import ROOT
 from shown import Shown, tree
 
 PARTS = ("src", "specs", "proofs")

@@ -18,9 +18,9 @@ import re
 import subprocess
 from functools import lru_cache
 
-import ledger
-from labels import below
+import rattle
 from mutants import LISTS
+from rattle import below
 
 # The version of how a refusal is judged: raised with a change after which an earlier result says something else.
 JUDGING = 1
@@ -39,9 +39,9 @@ def sum_of(*parts):
 
 def without_comments(path, text=None):
     """The text of a file without comments, its words with one space between them."""
-    text = ledger.read(path) if text is None else text
+    text = rattle.read(path) if text is None else text
     if path.suffix == ".rt":
-        text = ledger.MASKED.sub(lambda m: " " if m.group().startswith(("//", "/*")) else m.group(), text)
+        text = rattle.MASKED.sub(lambda m: " " if m.group().startswith(("//", "/*")) else m.group(), text)
     else:
         text = COMMENT.sub("", text)
     return " ".join(text.split())
@@ -49,7 +49,7 @@ def without_comments(path, text=None):
 
 def texts(crate, part):
     """The texts of a part of a crate, such as specs, by their paths in it."""
-    folder = ledger.CRATES / crate / part
+    folder = rattle.CRATES / crate / part
     return [(str(path.relative_to(folder)), without_comments(path))
             for path in sorted(folder.rglob("*")) if path.suffix in (".rt", ".antt")]
 
@@ -75,9 +75,9 @@ def used_names(tree, path=""):
 def contract_text(path):
     """A file of src without what no crate above can know: bodies, private functions, comments, hints to the prover, and
     imports of names that are left nowhere."""
-    text, kept, at = ledger.read(path), [], 0
-    traits = [(begin, end) for begin, end, _, _, kind, _ in ledger.blocks(path) if kind == "trait"]
-    for function in ledger.functions(path):
+    text, kept, at = rattle.read(path), [], 0
+    traits = [(begin, end) for begin, end, _, _, kind, _ in rattle.blocks(path) if kind == "trait"]
+    for function in rattle.functions(path):
         if function.start < at:
             continue
         is_known = function.public or any(begin < function.start < end for begin, end in traits)
@@ -96,7 +96,7 @@ def contract_text(path):
 @lru_cache(maxsize=None)
 def contracts_of(crate):
     """A checksum of what crates above can know of a crate."""
-    return sum_of(crate, [(path.name, *contract_text(path)) for path in ledger.sources(crate)], texts(crate, "specs"))
+    return sum_of(crate, [(path.name, *contract_text(path)) for path in rattle.sources(crate)], texts(crate, "specs"))
 
 
 @lru_cache(maxsize=None)
@@ -119,7 +119,7 @@ def stands_on(plant):
 
 def tree():
     """What tells whether a text of the crates was changed, as those that are read here are remembered."""
-    folders = [crate / part for crate in ledger.CRATES.iterdir() for part in ("src", "specs", "proofs")]
+    folders = [crate / part for crate in rattle.CRATES.iterdir() for part in ("src", "specs", "proofs")]
     found = [(str(path), path.stat()) for folder in folders for path in folder.rglob("*.*")]
     return {name: (stat.st_mtime_ns, stat.st_size) for name, stat in found}
 

@@ -1,25 +1,21 @@
 #!/usr/bin/env python3
-"""Prints the sizes of the tree as a page: lines of code, contracts, definitions and proofs of each library, how many
-clauses its functions have, and which names of definitions two crates have. tools/ledger.py writes this page into
-out/ledger/SIZES.md. Given the folder of another tree with the same layout, it prints the page of that tree, so that
-two states can be compared."""
+"""Counts the tree: lines of code, contracts, definitions and proofs of each library; what each program stands on; and what
+a reader stumbles over, such as functions that only tests call. Prints the counts as a page, of this tree or of another
+one with the same layout, so that two states can be compared."""
 
 import argparse
 import re
 from dataclasses import dataclass
 from pathlib import Path
 
+import rattle
+
 WIDE = 120
 MOST_PARAMETERS = 6
+PROGRAMS = ("vacation", "judge")
 HOP = re.compile(r"^\d+\. (a closure in )?`([\w:]+)` \(`(\w+/src/\w+\.rt)`\)", re.M)
-
-# The crates of objects; the calls that users of these make; the definition by which the core theorem enters.
-OBJECTS = ("stm_object", "vac_manager", "ex_bank", "ex_ring")
-CALLS = (("vac_manager/src/calls.rt", "call"), ("stm_object/src/caller.rt", "Caller::call"),
-         ("stm_object/src/caller.rt", "Caller::run"))
-CORE = ("WasDecided",)
 TESTS = re.compile(r"^test_|_day$|^vacation$|^judge$")
-DEFINED = re.compile(r"^(?:pub (?:record|data|inductive)|(?:abbrev|record|data) pub|pub abbrev) ([^\s:({]+)", re.M)
+TRAIT = re.compile(r"^\s*(?:pub(?:\(crate\))? )?trait (\w+)", re.M)
 
 
 @dataclass
@@ -50,15 +46,15 @@ def lines_between(text, start, end):
     return sum(bool(line.strip()) for line in text[start:end].splitlines())
 
 
-def sizes_of(folder, functions):
-    """The sizes of one crate, of whose files `functions` finds the functions."""
+def sizes_of(folder):
+    """The sizes of one crate."""
     sources = sorted((folder / "src").rglob("*.rt"))
     found = Sizes(source=len(lines_of(sources)), specs=len(lines_of((folder / "specs").rglob("*.antt"))))
     proofs = lines_of((folder / "proofs").rglob("*.antt"))
     found.proofs, found.wide = len(proofs), sum(len(line) > WIDE for line in proofs)
     for path in sources:
         text = path.read_text()
-        for function in functions(path):
+        for function in rattle.functions(path):
             if function.test or not function.clauses and function.end <= function.body + 1:
                 continue
             head = text[function.start:function.body]
@@ -72,16 +68,6 @@ def sizes_of(folder, functions):
     return found
 
 
-def shared_names(folders):
-    """The names of definitions that more than one library has, with these libraries."""
-    where = {}
-    for folder in folders:
-        for path in (folder / "specs").rglob("*.antt"):
-            for name in DEFINED.findall(path.read_text()):
-                where.setdefault(name, set()).add(folder.name)
-    return {name: crates for name, crates in where.items() if len(crates) > 1}
-
-
 def libraries(root):
     """The folders of the libraries, in the order of crates.txt."""
     names = [line.split(":")[0].split()[0] for line in (root / "crates.txt").read_text().splitlines()
@@ -89,51 +75,95 @@ def libraries(root):
     return [root / "crates" / name for name in names if not TESTS.search(name)]
 
 
-def below(root, program):
-    """Returns the names of the libraries on which a program stands, directly or through others."""
-    import shape
-    uses, found, ahead = shape.crate_lines(root), set(), [program]
-    while ahead:
-        new = set(uses.get(ahead.pop(), ())) - found
-        found |= new
-        ahead += new
-    return found
-
-
-def program_sizes(root, functions):
-    """Returns the sizes of the libraries on which the programs `vacation` and `judge` stand, taken together."""
-    total, names = Sizes(), below(root, "vacation") | below(root, "judge")
+def program_sizes(root):
+    """Returns the sizes of the libraries on which the programs stand, taken together."""
+    total, names = Sizes(), set().union(*map(rattle.below, PROGRAMS))
     for folder in libraries(root):
         if folder.name in names:
-            total.add(sizes_of(folder, functions))
+            total.add(sizes_of(folder))
     return total
 
 
-def page(root, functions):
-    """Returns the table of the libraries' sizes, as a page."""
-    folders = libraries(root)
+def page(root):
+    """Returns the counts of the tree, as a page."""
     out = ["# Sizes", "",
-           "Of each library, made by `tools/sizes.py`: lines that are not empty, of code (with its contracts), of "
-           "contracts and of bodies, of definitions and of proofs by hand; clauses of its functions, and the most "
-           f"that one has; proof lines beyond column {WIDE}.", "",
+           "Of each library: lines that are not empty, of code (with its contracts), of contracts and of bodies, of "
+           "definitions and of proofs by hand; clauses of its functions, and the most that one has; proof lines beyond "
+           f"column {WIDE}. `./dev sizes` prints this page.", "",
            "| Crate | Source | Contracts | Bodies | Definitions | Proofs | Functions | Clauses | Most | Wide |",
            "|---|--:|--:|--:|--:|--:|--:|--:|--:|--:|"]
     total = Sizes()
-    for folder in folders:
-        sizes = sizes_of(folder, functions)
+    for folder in libraries(root):
+        sizes = sizes_of(folder)
         total.add(sizes)
         out.append(row(folder.name, sizes))
-    shared = shared_names(folders)
-    out += [row("all", total), row("below the programs", program_sizes(root, functions)), "",
+    out += [row("all", total), row("below the programs", program_sizes(root)), "",
             f"Clauses a function: {total.clauses / max(1, total.functions):.2f}. Contract lines a body line: "
-            f"{total.contracts / max(1, total.bodies):.2f}. Names of definitions in two libraries or more: "
-            f"{len(shared)}."]
-    return "\n".join(out) + "\n"
+            f"{total.contracts / max(1, total.bodies):.2f}.", ""]
+    return "\n".join(out + shape(root)) + "\n"
 
 
 def row(name, sizes):
     return (f"| {name} | {sizes.source} | {sizes.contracts} | {sizes.bodies} | {sizes.specs} | {sizes.proofs} "
             f"| {sizes.functions} | {sizes.clauses} | {sizes.most} | {sizes.wide} |")
+
+
+def longest_chain(names):
+    """Returns the crates on the longest chain among these, from the lowest one up."""
+    crates, chains = rattle.listed_crates(), {}
+    for name in (name for name in crates if name in names):
+        chains[name] = max((chains[use] for use in crates[name] if use in chains), key=len, default=[]) + [name]
+    return max(chains.values(), key=len, default=[])
+
+
+def shape(root):
+    """Returns the lines on what each program stands on, and on what a reader stumbles over."""
+    out = ["| Program | Crates | On the longest chain |", "|---|--:|---|"]
+    for program in PROGRAMS:
+        below = rattle.below(program)
+        chain = longest_chain(below)
+        out.append(f"| {program} | {len(below)} | {len(chain)}: {' '.join(chain)} |")
+    counts = [("Functions that only tests call", test_only_calls(root)), ("Traits with one type", lone_traits(root)),
+              (f"Functions with more than {MOST_PARAMETERS} parameters", long_functions(root))]
+    for title, names in counts:
+        out += ["", f"{title}: {', '.join(f'`{name}`' for name in names) or 'none'}."]
+    return out
+
+
+def sources(root, tests):
+    """Returns the sources of libraries and programs, or those of tests."""
+    folders = sorted(path for path in (root / "crates").iterdir() if path.is_dir())
+    return [path for folder in folders if folder.name.startswith("test_") == tests
+            for path in sorted(folder.glob("src/**/*.rt"))]
+
+
+def lone_traits(root):
+    """Returns the traits that at most one type outside tests implements."""
+    texts = [rattle.masked(path) for path in sources(root, False)]
+    names = sorted({name for text in texts for name in TRAIT.findall(text)})
+    return [name for name in names
+            if sum(len(re.findall(rf"^impl\b[^\n{{]*\b{name}\b(?:<[^\n]*>)? for ", text, re.M)) for text in texts) < 2]
+
+
+def test_only_calls(root):
+    """Returns the public functions of libraries that only tests name. A law is named by nobody, and no function of the
+    tree's examples counts: strangers call those."""
+    outside = [rattle.masked(path) for path in sources(root, False)]
+    inside = "\n".join(rattle.masked(path) for path in sources(root, True))
+    found = []
+    for path in sources(root, False):
+        crate = path.relative_to(root / "crates").parts[0]
+        if crate.startswith("ex_"):
+            continue
+        text = rattle.masked(path)
+        for function in rattle.functions(path):
+            is_law = function.end <= function.body + 1 or not text[function.body + 1:function.end - 1].strip()
+            if not text[function.start:].startswith("pub fn") or is_law or function.test:
+                continue
+            use = re.compile(rf"(?<!fn )\b{function.name}\b(?:::<[^(]*>)?\(")
+            if not any(use.search(other) for other in outside) and use.search(inside):
+                found.append(f"{crate}: {function.title()}")
+    return found
 
 
 def parameters(text):
@@ -164,15 +194,11 @@ def after_name(text):
     return at
 
 
-def long_functions(root, ledger):
-    """Returns the functions with too many parameters, each with its number of parameters."""
-    found = []
-    for path in sorted(root.glob("crates/*/src/**/*.rt")):
-        for function in ledger.functions(path):
-            count = len(parameters(ledger.masked(path)[function.start:]))
-            if count > MOST_PARAMETERS:
-                found.append((f"{path.relative_to(root / 'crates')}: {function.title()}", count))
-    return found
+def long_functions(root):
+    """Returns the functions with too many parameters."""
+    return [f"{path.relative_to(root / 'crates')}: {function.title()}"
+            for path in sorted(root.glob("crates/*/src/**/*.rt")) for function in rattle.functions(path)
+            if len(parameters(rattle.masked(path)[function.start:])) > MOST_PARAMETERS]
 
 
 def walks(root):
@@ -186,16 +212,16 @@ def walks(root):
     return found
 
 
-def walk_faults(root, ledger):
+def walk_faults(root):
     """Returns the faults of the walks: a function that is not in its file, or does not call the next one."""
     faults = []
     for title, hops in walks(root).items():
         for (name, file, _), (then, _, is_closure) in zip(hops, hops[1:] + [("", "", True)]):
             path = root / "crates" / file
-            here = [f for f in ledger.functions(path) if named(f) == name] if path.is_file() else []
+            here = [f for f in rattle.functions(path) if named(f) == name] if path.is_file() else []
             if len(here) != 1:
                 faults.append(f"{title}: {file} has {len(here)} functions {name}")
-            elif not is_closure and not calls(here[0], ledger.masked(path), then):
+            elif not is_closure and not calls(here[0], rattle.masked(path), then):
                 faults.append(f"{title}: {name} does not call {then}")
     return faults
 
@@ -215,50 +241,14 @@ def calls(function, text, name):
     return re.search(rf"(?<!\bself\.)\b{method}\(", body) is not None
 
 
-def objects(root, ledger):
-    """Returns the tables of what a call of a shared object costs its readers."""
-    import budget
-    ledger.ROOT, ledger.CRATES = root, root / "crates"
-    folders = [root / "crates" / name for name in OBJECTS if (root / "crates" / name).is_dir()]
-    out = ["| Crate | Lines | of these proofs | Functions | Clauses | Most |", "|---|--:|--:|--:|--:|--:|"]
-    for folder in folders:
-        of = sizes_of(folder, ledger.functions)
-        lines = of.source + of.specs + of.proofs
-        out.append(f"| {folder.name} | {lines} | {of.proofs} | {of.functions} | {of.clauses} | {of.most} |")
-    out += ["", "| Definitions that a call cites | Lines | without the core theorem's |", "|---|--:|--:|"]
-    for file, name in CALLS:
-        path = root / "crates" / file
-        here = [f for f in ledger.functions(path) if named(f) == name] if path.is_file() else []
-        if here:
-            whole, outer = budget.closure_of(here), budget.closure_of(here, CORE)
-            out.append(f"| `{name}` | {whole.lines()} | {outer.lines()} |")
-    out += ["", "| Walk | Frames |", "|---|--:|"]
-    out += [f"| {title} | {len(hops)} |" for title, hops in walks(root).items()]
-    found = long_functions(root, ledger)
-    out += ["", f"Functions with more than {MOST_PARAMETERS} parameters: {len(found)}."]
-    out += [f"- {name}, {count}" for name, count in found]
-    return "\n".join(out) + "\n"
-
-
 def main():
-    import ledger
     options = argparse.ArgumentParser(prog="./dev sizes", description=__doc__)
-    kind = options.add_mutually_exclusive_group()
-    kind.add_argument("--objects", action="store_true", help="print what a call of a shared object costs its readers: "
-                      "lines and clauses of the crates of objects, functions with many parameters, the walks of "
-                      "docs/ARCHITECTURE.md, and how many lines of definitions a call cites")
-    kind.add_argument("--tree", action="store_true", help="print how many crates a reader meets, how many frames a "
-                      "call takes, and counts of code that is hard to read")
-    options.add_argument("folder", nargs="?", type=Path, default=ledger.ROOT, help="another tree (default: this one)")
-    words = options.parse_args()
-    root = words.folder.resolve()
+    options.add_argument("folder", nargs="?", type=Path, default=rattle.ROOT, help="another tree (default: this one)")
+    root = options.parse_args().folder.resolve()
     if not (root / "crates.txt").is_file():
-        options.error(f"{words.folder} has no file crates.txt")
-    if words.tree:
-        import shape
-        print(shape.table(root, ledger), end="")
-    else:
-        print(objects(root, ledger) if words.objects else page(root, ledger.functions), end="")
+        options.error(f"{root} has no file crates.txt")
+    rattle.read_tree(root)
+    print(page(root), end="")
 
 
 if __name__ == "__main__":

@@ -94,11 +94,9 @@ COMMANDS = {
     "new-law": Command("NAME", "write a crate with a transactional object of its own", script("tools/new_law")),
     "new-object": Command("NAME", "write a crate with a sequential object, and a judge of its histories",
                           script("tools/new_object")),
-    "sizes": Command("[--objects|--tree]", "print lines, clauses, frames and parameters of the tree", script("tools/sizes.py")),
-    "contracts": Command("[--write|--check|--since REV]", "print all clauses, keep them in docs/clauses.txt, or compare",
+    "sizes": Command("[FOLDER]", "count lines, clauses, crates and chains of the tree", script("tools/sizes.py")),
+    "contracts": Command("[OPTION]..", "print, keep or compare all clauses; how much a promise asks to be read; pages of crates",
                          script("tools/contracts.py")),
-    "budget": Command("", "print the size of each promise's definitions", script("tools/budget.py")),
-    "ledger": Command("", "write out/ledger: what each crate promises", script("tools/ledger.py")),
 }
 
 
