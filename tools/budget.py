@@ -3,7 +3,7 @@
 
 The statement of a promise is the contract of the functions that its line `Contract:` names. The closure of
 that contract is every definition of `specs/` that a clause cites, that such a definition cites, and so on.
-This script counts the definitions of each closure, their lines, and the files and crates that have them.
+This script counts the definitions of each closure and their lines.
 
     tools/budget.py                 the table of all promises
     tools/budget.py N               the definitions of promise N, in the order of reading
@@ -21,8 +21,8 @@ from dataclasses import dataclass, field
 import ledger
 
 PAGE = ledger.ROOT / "docs" / "PROMISES.md"
-HEAD = "| Promise | Definitions | Lines | Files | Crates |\n|---|--:|--:|--:|--:|\n"
-PROMISE = re.compile(r"^## (\d+)\. (.*)$", re.M)
+HEAD = "| Promise | Definitions | Lines |\n|---|--:|--:|\n"
+PROMISE = re.compile(r"^## (\d+)\. ", re.M)
 CONTRACT = re.compile(r"^- Contract: (.*)$", re.M)
 COMMENT = re.compile(r"--.*")
 NAMED = re.compile(r"`([\w:]+)`|\bof (vac_\w+|stm_\w+|tx_\w+|judge_\w+|load_\w+|cli_\w+)")
@@ -31,7 +31,6 @@ NAMED = re.compile(r"`([\w:]+)`|\bof (vac_\w+|stm_\w+|tx_\w+|judge_\w+|load_\w+|
 @dataclass
 class Promise:
     number: int
-    title: str
     contracts: list = field(default_factory=list)   # pairs of a crate and a function
 
 
@@ -74,7 +73,7 @@ def promises():
     found = []
     for head, after in zip(heads, [*heads[1:], None]):
         section = text[head.end():after.start() if after else len(text)]
-        promise = Promise(int(head.group(1)), head.group(2))
+        promise = Promise(int(head.group(1)))
         for line in CONTRACT.findall(section):
             if line.startswith("the same") and found:
                 promise.contracts += found[-1].contracts
@@ -127,8 +126,7 @@ def table():
     rows = []
     for promise in promises():
         closure = closure_of_promise(promise)
-        rows.append(f"| {promise.number}. {promise.title} | {len(closure.definitions)} | {closure.lines()} "
-                    f"| {len(closure.files())} | {len(closure.crates())} |\n")
+        rows.append(f"| {promise.number} | {len(closure.definitions)} | {closure.lines()} |\n")
     return HEAD + "".join(rows)
 
 
