@@ -43,7 +43,8 @@ def lines():
     threads = [number for _, number, _ in rates]
     ends = sorted({min(threads), max(threads)})
     settings = [setting for setting in SHOWN if (setting, ends[0], OURS) in rates]
-    found = ["| This program / | " + " | ".join(f"`{setting}`" for setting in settings) + " |",
+    found = [f"| {' and '.join(map(str, ends))} threads: this program / | "
+             + " | ".join(f"`{setting}`" for setting in settings) + " |",
              "|---|" + "---|" * len(settings)]
     for program in dict.fromkeys(name for _, _, name in rates if name != OURS):
         cells = [", ".join(f"{rates[setting, number, OURS] / rates[setting, number, program]:.2f}" for number in ends
