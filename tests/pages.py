@@ -218,7 +218,7 @@ def holds_lengths():
 def holds_measured():
     """The table of speeds of the first page is that of the raw numbers."""
     if not first_page.is_current():
-        fault(ROOT / "README.md", "the table of speeds is not that of docs/measured.csv: benchmark/first_page.py writes it")
+        fault(ROOT / "README.md", "the table of speeds is not that of docs/measured.csv: benchmark/first_page.py")
 
 
 def holds_modules():
