@@ -16,6 +16,7 @@ import tempfile
 from pathlib import Path
 
 import estimates
+import first_page
 import pages
 from picture import picture
 from programs import (IS_CLONE, OURS, PARTS, PROGRAM, ROOT, TRIED, Judge, Ours, Peer, Pinner, give_up, has_option,
@@ -275,6 +276,11 @@ def pinning():
     return "each to a processor, in turn" + (f"; in {Pinner.missed} runs not" if Pinner.missed else "")
 
 
+def build(program):
+    """Which build of this program was measured."""
+    return "the proved build of this tree" if program == PROGRAM else "a build given by `--program`"
+
+
 def command():
     """The command line, without what names files of this machine."""
     words = sys.argv[1:]
@@ -298,6 +304,7 @@ def heading(plan, load):
         f"| machine | {machine()}; load average at the begin {load:.1f} |",
         f"| clients | {pinning()} |",
         f"| huge pages | {huge_pages()} |",
+        f"| {OURS} | {build(plan.ours.program)} |",
         f"| peers | {compiler[0]}, {os.environ.get('CXXFLAGS', '-O3')} |", "",
         "Answered tasks a second, in thousands, from when all clients stand ready to the last answer: "
         f"medians, and their intervals by bootstrap ({estimates.SURE} of a hundred). All programs had the "
@@ -425,49 +432,15 @@ def draw_pictures(folder, plan, found):
         (folder / f"measured-{name}.svg").write_text(drawn, encoding="utf-8")
 
 
-def readme_lines(plan, found):
-    """The picture of the first setting, and for each one the program's rates beside those of its algorithm in C++, and
-    those of the other programs beside the program's."""
-    name, options = next(iter(plan.settings.items()))
-    counts = ", ".join(map(str, plan.clients))
-    lines = [f"![completed tasks a second over clients: {title_of(name, options)}](docs/measured-{name}.svg)", "",
-             f"Completed tasks a second, as a ratio to the same TL2 in C++ without a proof, by {counts} clients, with "
-             f"bootstrap intervals of {estimates.SURE} of a hundred:", "",
-             "| Setting | TL2 in C++ | TL2 in C++, sequentially consistent |", "|---|---|---|"]
-    for name, options in plan.settings.items():
-        cells = [", ".join(ratio_cell(found[name, clients][OURS], found[name, clients][beside])
-                           for clients in plan.clients) for beside in BESIDE]
-        lines.append(row([title_of(name, options), *cells]))
-    return [*lines, "", *others_lines(plan, found)]
-
-
-def others_lines(plan, found):
-    """The rates of the other programs beside this program's, with the fewest and with the most clients."""
-    others = [program.name for program in plan.programs if program.name not in (OURS, *BESIDE)]
-    ends = sorted({plan.clients[0], plan.clients[-1]})
-    lines = ["Completed tasks a second of other programs, as a ratio to this program's (above 1 the other completes "
-             f"more), by {' and '.join(map(str, ends))} clients:", "",
-             row(["Setting", *others]), "|---|" + "--:|" * len(others)]
-    for name in plan.settings:
-        cells = [", ".join(f"{ratio_of(found[name, clients], other):.1f}" for clients in ends) for other in others]
-        lines.append(row([name, *cells]))
-    return lines
-
-
-def ratio_of(programs, other):
-    """The median rate of another program through that of this one."""
-    return statistics.median(programs[other].rates()) / statistics.median(programs[OURS].rates())
-
-
 def write_pages(plan, found, lines):
     """Puts all into docs/MEASURED.md and README.md, with the raw numbers and the pictures beside the first."""
     docs = ROOT / "docs"
     pages.put(docs / "MEASURED.md", pages.below(lines))
-    pages.put(ROOT / "README.md", readme_lines(plan, found))
     for old in docs.glob("measured-*.svg"):
         old.unlink()
     write_raw(docs / "measured.csv", plan, found)
     draw_pictures(docs, plan, found)
+    first_page.write()
 
 
 def write_all(folder, plan, found, times, load):

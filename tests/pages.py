@@ -1,9 +1,9 @@
 #!/usr/bin/env python3
 """Holds the pages against the tree: the snapshot of clauses, files that the pages name and pieces of them, crates in their
-order, modules, the walks of a call, the number of rows, the sizes of the statements, lines beyond column 100 (of
-proofs, 120), and the toolchain's name. Checks that each link leads to a file and a heading, and that no sentence by
-hand is longer than its limit. Holds the plants against the tree too: their texts, and what they name. Needs no built
-program."""
+order, modules, the walks of a call, the number of rows, the sizes of the statements, what was measured, lines beyond
+column 100 (of proofs, 120), and the toolchain's name. Checks that each link leads to a file and a heading, and that no
+sentence, paragraph or page is longer than its limit. Holds the plants against the tree too: their texts, and what they
+name. Needs no built program."""
 
 import re
 import subprocess
@@ -11,9 +11,10 @@ import sys
 from pathlib import Path
 
 ROOT = Path(__file__).resolve().parent.parent
-sys.path.insert(0, str(ROOT / "tools"))
+sys.path[:0] = [str(ROOT / "tools"), str(ROOT / "benchmark")]
 
 import crate_pages
+import first_page
 import sizes
 
 PAGES = sorted([*ROOT.glob("*.md"), *(ROOT / "docs").glob("*.md")])
@@ -21,6 +22,9 @@ CRATES = ROOT / "crates"
 WIDEST = 100
 WIDEST_PROOF = 120
 LONGEST = 40
+# The most words of a paragraph, and of a page: the pages named here keep both.
+LONGEST_PARAGRAPH = 90
+MOST_WORDS = {"README.md": 1200, "THEOREM.md": 2200, "PROMISES.md": 2600, "GLOSSARY.md": 800}
 LONG_STILL = set()
 faults = []
 
@@ -158,8 +162,8 @@ def holds_links(page):
 def holds_lines_of_libraries():
     """The lines of the libraries that README.md gives are those that are counted, within a twentieth."""
     page = ROOT / "README.md"
-    told = re.search(r"have ([\d,]+) lines of bodies\. Their contracts have ([\d,]+) lines, the definitions that they "
-                     r"cite ([\d,]+), and the proofs ([\d,]+)\.", page.read_text())
+    told = re.search(r"have ([\d,]+) lines of bodies, ([\d,]+) of contracts, ([\d,]+) of definitions and ([\d,]+) of "
+                     r"proofs\.", page.read_text())
     found = [int(number.replace(",", "")) for number in told.groups()] if told else []
     counted = sizes.program_sizes(ROOT)
     want = [counted.bodies, counted.contracts, counted.specs, counted.proofs]
@@ -186,6 +190,26 @@ def holds_sentences():
     for page, text in found:
         if words(text) > LONGEST:
             fault(page, f"a sentence of {words(text)} words: {text[:60]} ..")
+
+
+def holds_lengths():
+    """Pages and their paragraphs have no more words than their limits. Lists of contracts and definitions are no
+    paragraphs."""
+    for page in PAGES:
+        if page.name not in MOST_WORDS:
+            continue
+        count = words(page.read_text())
+        if count > MOST_WORDS[page.name]:
+            fault(page, f"{count} words, more than {MOST_WORDS[page.name]}")
+        for line in without_code(page).splitlines():
+            if words(line) > LONGEST_PARAGRAPH and not re.match(r"\||- (?:Contract|Definition)\b", line):
+                fault(page, f"a paragraph of {words(line)} words: {line[:60]} ..")
+
+
+def holds_measured():
+    """The table of speeds of the first page is that of the raw numbers."""
+    if not first_page.is_current():
+        fault(ROOT / "README.md", "the table of speeds is not that of docs/measured.csv: benchmark/first_page.py")
 
 
 def holds_modules():
@@ -271,6 +295,8 @@ def main():
     holds_lines_of_libraries()
     holds_plants()
     holds_sentences()
+    holds_lengths()
+    holds_measured()
     holds_modules()
     holds_walks()
     holds_rules(crates)

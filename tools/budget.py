@@ -2,7 +2,7 @@
 
 The statement of a promise is the contract of the functions that its line `Contract:` names. The closure of that contract
 is every definition of `specs/` that a clause cites, that such a definition cites, and so on. Counted are the definitions
-of each closure, their lines, and the files and crates that have them. The kit's own definitions, the types that Rattle
+of each closure and their lines. The kit's own definitions, the types that Rattle
 makes of Rust types (`specs.declared`), comments and blank lines do not count."""
 
 import re
@@ -12,8 +12,8 @@ from dataclasses import dataclass, field
 import rattle
 
 PROMISES = rattle.ROOT / "docs" / "PROMISES.md"
-HEAD = "| Promise | Definitions | Lines | Files | Crates |\n|---|--:|--:|--:|--:|\n"
-PROMISE = re.compile(r"^## (\d+)\. (.*)$", re.M)
+HEAD = "| Promise | Definitions | Lines |\n|---|--:|--:|\n"
+PROMISE = re.compile(r"^## (\d+)\. ", re.M)
 CONTRACT = re.compile(r"^- Contract: (.*)$", re.M)
 COMMENT = re.compile(r"--.*")
 NAMED = re.compile(r"`([\w:]+)`|\bof (vac_\w+|stm_\w+|tx_\w+|judge_\w+|load_\w+|cli_\w+)")
@@ -22,7 +22,6 @@ NAMED = re.compile(r"`([\w:]+)`|\bof (vac_\w+|stm_\w+|tx_\w+|judge_\w+|load_\w+|
 @dataclass
 class Promise:
     number: int
-    title: str
     contracts: list = field(default_factory=list)   # pairs of a crate and a function
 
 
@@ -65,7 +64,7 @@ def promises():
     found = []
     for head, after in zip(heads, [*heads[1:], None]):
         section = text[head.end():after.start() if after else len(text)]
-        promise = Promise(int(head.group(1)), head.group(2))
+        promise = Promise(int(head.group(1)))
         for line in CONTRACT.findall(section):
             if line.startswith("the same") and found:
                 promise.contracts += found[-1].contracts
@@ -119,8 +118,7 @@ def table():
     rows = []
     for promise in promises():
         closure = closure_of_contracts(promise.contracts)
-        rows.append(f"| {promise.number}. {promise.title} | {len(closure.definitions)} | {closure.lines()} "
-                    f"| {len(closure.files())} | {len(closure.crates())} |\n")
+        rows.append(f"| {promise.number} | {len(closure.definitions)} | {closure.lines()} |\n")
     return HEAD + "".join(rows)
 
 

@@ -76,6 +76,13 @@ class Release:
         return "{}.{}".format(*max((int(major), int(minor)) for major, minor in asked))
 
 
+def rows_as_text(table):
+    """Each row of a table as an item: its first cell, and the others behind the names of their columns."""
+    (_, *names), *rows = table
+    items = ([f"{first}.", *(f"{name}: {cell}." for name, cell in zip(names, cells))] for first, *cells in rows)
+    return "".join(manual.wrapped(" ".join(words), "- ") + "\n" for words in items)
+
+
 def proved(release):
     """What the program was made of, what is promised of it, and on what that rests."""
     changed = ", with changes that are not committed" if release.is_changed else ""
@@ -87,7 +94,7 @@ def proved(release):
         " it was built in the tree of this commit is the word of whoever packed it. Promises and assumptions are"
         " those of the first page of the source tree, its `README.md`; pages named here that are not beside this"
         " file stand there.") + "\n"
-    for heading in ("## What is promised", "## What is trusted"):
+    for heading in ("## What is proved", "## What is trusted"):
         title = heading.removeprefix("## ")
         text += f"\n\n{title}\n{'=' * len(title)}\n"
         before = None
@@ -99,9 +106,7 @@ def proved(release):
             elif kind == "text":
                 text += manual.wrapped(block) + "\n"
             elif kind == "table":
-                _, *rows = block
-                text += "".join(manual.wrapped(f"{what}. Why: {why}. If it fails: {otherwise}.", "- ") + "\n"
-                                for what, why, otherwise in rows)
+                text += rows_as_text(block)
     return text
 
 
