@@ -1,7 +1,7 @@
 #!/usr/bin/env python3
 """Holds the pages against the tree: the snapshot of clauses, files that the pages name and pieces of them, crates in their
-order, modules, the walks of a call, the number of rows, the sizes of the statements, lines beyond column 100 (of
-proofs, 120), and the toolchain's name. Checks that each link leads to a file and a heading, and that no sentence by
+order, the index, modules, the walks of a call, the number of rows, the sizes of the statements, lines beyond column 100
+(of proofs, 120), and the toolchain's name. Checks that each link leads to a file and a heading, and that no sentence by
 hand is longer than its limit. Holds the plants against the tree too: their texts, and what they name. Needs no built
 program."""
 
@@ -13,6 +13,7 @@ from pathlib import Path
 ROOT = Path(__file__).resolve().parent.parent
 sys.path.insert(0, str(ROOT / "tools"))
 
+import index
 import ledger
 import sizes
 
@@ -41,7 +42,7 @@ def listed_crates():
 
 
 def holds_crates(crates):
-    """A crate stands below those that it stands on, and the table of crates tells on which it stands."""
+    """A crate stands below those that it stands on."""
     file, seen = ROOT / "crates.txt", set()
     for name, below in crates.items():
         for library in below:
@@ -50,22 +51,12 @@ def holds_crates(crates):
         seen.add(name)
         if not (CRATES / name / "src").is_dir():
             fault(file, f"{name} has no folder")
-    page = ROOT / "docs" / "ARCHITECTURE.md"
-    table = page.read_text().split("| Crate | Stands on |")[1].split("\n\n")[0]
-    rows = re.findall(r"^\| (\w+) \| ([\w ]*)\|", table, flags=re.M)
-    told = {name: set(below.split()) for name, below in rows}
-    under = {}
-    for name, below in crates.items():
-        here = {library for library in below if library in crates}
-        under[name] = here.union(*(under.get(library, set()) for library in here))
-        least = {library for library in here
-                 if not any(library in under.get(other, set()) for other in here)}
-        if name not in told:
-            fault(page, f"{name} has no place")
-        elif told[name] != least:
-            fault(page, f"{name} stands on {' '.join(sorted(least))}")
-    for name in told.keys() - crates.keys():
-        fault(page, f"{name} is no crate")
+
+
+def holds_index():
+    """The index has the crates and the files of definitions of the tree, with their first sentences."""
+    if index.PAGE.read_text() != index.made():
+        fault(index.PAGE, "is not that of the tree: tools/index.py writes it")
 
 
 def file_is_there(name, folder):
@@ -200,9 +191,8 @@ def holds_sentences():
 def holds_modules():
     """The table of modules of a running transaction lists just those of stm_attempt."""
     page = ROOT / "docs" / "ARCHITECTURE.md"
-    text = page.read_text()
-    table = text[text.index("| Module | What it has |"):].split("\n\n")[0]
-    named = re.findall(r"^\| `(\w+)` \|", table, flags=re.M)
+    table = page.read_text().split("| Module of `stm_attempt` | What it has |\n")[1].split("\n\n")[0]
+    named = re.findall(r"`(\w+)`", table)
     there = {f.stem for f in (CRATES / "stm_attempt" / "src").glob("*.rt")} - {"lib"}
     if set(named) != there or len(named) != len(there):
         fault(page, f"modules of stm_attempt: {sorted(there.symmetric_difference(named))}")
@@ -214,16 +204,6 @@ def holds_walks():
         fault(ROOT / "docs" / "ARCHITECTURE.md", text)
     if len(sizes.walks(ROOT)) != 3:
         fault(ROOT / "docs" / "ARCHITECTURE.md", "the three walks are not there")
-
-
-def holds_rules(crates):
-    """Each library with definitions has its place in the list of rules, or in the page of the theorem."""
-    page = ROOT / "docs" / "ARCHITECTURE.md"
-    rules = page.read_text().split("## Where a rule lives")[1].split("\n## ")[0]
-    rules += (ROOT / "docs" / "THEOREM.md").read_text()
-    for name in crates:
-        if not name.startswith(("ex_", "test_")) and (CRATES / name / "specs").is_dir() and name not in rules:
-            fault(page, f"no rule is said to live in {name}")
 
 
 def holds_rows():
@@ -272,6 +252,7 @@ def holds_kit():
 def main():
     crates = listed_crates()
     holds_crates(crates)
+    holds_index()
     for page in PAGES:
         holds_files(page)
         holds_pieces(page)
@@ -283,7 +264,6 @@ def main():
     holds_sentences()
     holds_modules()
     holds_walks()
-    holds_rules(crates)
     holds_rows()
     holds_lines(crates)
     holds_kit()
