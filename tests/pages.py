@@ -1,8 +1,8 @@
 #!/usr/bin/env python3
 """Holds the pages against the tree: the snapshot of clauses, files that the pages name and pieces of them, crates in their
-order, modules, the walks of a call, the number of rows, the sizes of the statements, what was measured, lines beyond
-column 100 (of proofs, 120), and the toolchain's name. Checks that each link leads to a file and a heading, and that no
-sentence, paragraph or page is longer than its limit. Holds the plants against the tree too: their texts, and what they
+order, the index, modules, the walks of a call, the number of rows, the sizes of the statements, what was measured, lines
+beyond column 100 (of proofs, 120), and the toolchain's name. Checks that each link leads to a file and a heading, and that
+no sentence, paragraph or page is longer than its limit. Holds the mutants against the tree too: their texts, and what they
 name. Needs no built program."""
 
 import re
@@ -45,7 +45,7 @@ def listed_crates():
 
 
 def holds_crates(crates):
-    """A crate stands below those that it stands on, and the table of crates tells on which it stands."""
+    """A crate stands below those that it stands on."""
     file, seen = ROOT / "crates.txt", set()
     for name, below in crates.items():
         for library in below:
@@ -54,22 +54,6 @@ def holds_crates(crates):
         seen.add(name)
         if not (CRATES / name / "src").is_dir():
             fault(file, f"{name} has no folder")
-    page = ROOT / "docs" / "ARCHITECTURE.md"
-    table = page.read_text().split("| Crate | Stands on |")[1].split("\n\n")[0]
-    rows = re.findall(r"^\| (\w+) \| ([\w ]*)\|", table, flags=re.M)
-    told = {name: set(below.split()) for name, below in rows}
-    under = {}
-    for name, below in crates.items():
-        here = {library for library in below if library in crates}
-        under[name] = here.union(*(under.get(library, set()) for library in here))
-        least = {library for library in here
-                 if not any(library in under.get(other, set()) for other in here)}
-        if name not in told:
-            fault(page, f"{name} has no place")
-        elif told[name] != least:
-            fault(page, f"{name} stands on {' '.join(sorted(least))}")
-    for name in told.keys() - crates.keys():
-        fault(page, f"{name} is no crate")
 
 
 def file_is_there(name, folder):
@@ -105,7 +89,7 @@ def holds_files(page):
 def holds_pieces(page):
     """A piece that names its file after its language stands in that file, line by line. (Those of the pages on
     crates of one's own, of which some stand in a crate that a tool makes, are held by tests/library_page.py.)"""
-    if page.name in ("LIBRARY.md", "OBJECTS.md"):
+    if page.name in ("LIBRARY.md", "LIBRARY-REFERENCE.md", "OBJECTS.md"):
         return
     for name, piece in re.findall(r"^```\w+ (\S+)\n(.*?)^```$", page.read_text(), flags=re.M | re.S):
         place = ROOT / name
@@ -114,7 +98,7 @@ def holds_pieces(page):
 
 
 def holds_clauses():
-    """The snapshot of clauses has just those of the tree, and the sizes of the promises are those that are counted."""
+    """The snapshot of clauses, the index, and the sizes of the promises are those of the tree."""
     script = ROOT / "tools" / "contracts.py"
     told = subprocess.run([sys.executable, str(script), "--check"], capture_output=True, text=True)
     if told.returncode != 0:
@@ -215,9 +199,8 @@ def holds_measured():
 def holds_modules():
     """The table of modules of a running transaction lists just those of stm_attempt."""
     page = ROOT / "docs" / "ARCHITECTURE.md"
-    text = page.read_text()
-    table = text[text.index("| Module | What it has |"):].split("\n\n")[0]
-    named = re.findall(r"^\| `(\w+)` \|", table, flags=re.M)
+    table = page.read_text().split("| Module of `stm_attempt` | What it has |\n")[1].split("\n\n")[0]
+    named = re.findall(r"`(\w+)`", table)
     there = {f.stem for f in (CRATES / "stm_attempt" / "src").glob("*.rt")} - {"lib"}
     if set(named) != there or len(named) != len(there):
         fault(page, f"modules of stm_attempt: {sorted(there.symmetric_difference(named))}")
@@ -229,16 +212,6 @@ def holds_walks():
         fault(ROOT / "docs" / "ARCHITECTURE.md", text)
     if len(sizes.walks(ROOT)) != 3:
         fault(ROOT / "docs" / "ARCHITECTURE.md", "the three walks are not there")
-
-
-def holds_rules(crates):
-    """Each library with definitions has its place in the list of rules, or in the page of the theorem."""
-    page = ROOT / "docs" / "ARCHITECTURE.md"
-    rules = page.read_text().split("## Where a rule lives")[1].split("\n## ")[0]
-    rules += (ROOT / "docs" / "THEOREM.md").read_text()
-    for name in crates:
-        if not name.startswith(("ex_", "test_")) and (CRATES / name / "specs").is_dir() and name not in rules:
-            fault(page, f"no rule is said to live in {name}")
 
 
 def holds_rows():
@@ -299,7 +272,6 @@ def main():
     holds_measured()
     holds_modules()
     holds_walks()
-    holds_rules(crates)
     holds_rows()
     holds_lines(crates)
     holds_kit()

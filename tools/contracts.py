@@ -16,6 +16,7 @@ from pathlib import Path
 
 import budget
 import crate_pages
+import index
 import rattle
 
 TOP = Path(__file__).resolve().parent.parent
@@ -76,11 +77,13 @@ def snapshot():
 
 
 def check():
-    """Compares docs/clauses.txt, and the sizes of the promises in docs/PROMISES.md, with the tree."""
+    """Compares docs/clauses.txt, the sizes of the promises in docs/PROMISES.md, and docs/INDEX.md with the tree."""
     if not SNAPSHOT.is_file() or SNAPSHOT.read_text(encoding="utf-8") != snapshot():
         sys.exit("docs/clauses.txt differs from the tree: compare the clauses by git diff after ./dev contracts --write")
     if budget.table_differs():
         sys.exit("docs/PROMISES.md: the sizes of the statements differ: ./dev contracts --write")
+    if index.PAGE.read_text(encoding="utf-8") != index.made():
+        sys.exit("docs/INDEX.md is not that of the tree: ./dev contracts --write")
 
 
 def parser():
@@ -89,8 +92,8 @@ def parser():
                                       formatter_class=argparse.RawDescriptionHelpFormatter)
     kind = options.add_mutually_exclusive_group()
     kind.add_argument("--write", action="store_true",
-                      help="write all clauses into docs/clauses.txt, and the sizes of the promises into docs/PROMISES.md")
-    kind.add_argument("--check", action="store_true", help="compare both pages with the tree; status 1 if they differ")
+                      help="write docs/clauses.txt, docs/INDEX.md, and the sizes of the promises in docs/PROMISES.md")
+    kind.add_argument("--check", action="store_true", help="compare these pages with the tree; status 1 if they differ")
     kind.add_argument("--since", metavar="REV", help="print clauses that went (-) and came (+) since a commit; a clause "
                       "that only moved to another crate or function is marked (=)")
     kind.add_argument("--budget", nargs="*", metavar="WORD", help="print how large the statement of each promise is, or "
@@ -104,6 +107,7 @@ def main():
     if words.write:
         SNAPSHOT.write_text(snapshot(), encoding="utf-8")
         budget.write_table()
+        index.PAGE.write_text(index.made(), encoding="utf-8")
     elif words.check:
         check()
     elif words.since:
