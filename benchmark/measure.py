@@ -300,7 +300,7 @@ def heading(plan, load):
         f"| huge pages | {huge_pages()} |",
         f"| peers | {compiler[0]}, {os.environ.get('CXXFLAGS', '-O3')} |", "",
         "Answered tasks a second, in thousands, from when all clients stand ready to the last answer: "
-        f"medians, and their intervals by bootstrap ({estimates.SURE} of a hundred). All programs had the "
+        f"medians, with {estimates.SURE} % confidence intervals (bootstrap). All programs had the "
         f"same tasks, in all clients together as many for each number of clients: those that take {OURS} about "
         f"{plan.seconds:g} seconds by {named(plan.clients[0])}. Their runs were interleaved. Each client draws its tasks within the time{but}. "
         f"{tries}. Attempts a task are medians, for each number of clients. The history of a "
@@ -432,7 +432,7 @@ def readme_lines(plan, found):
     counts = ", ".join(map(str, plan.clients))
     lines = [f"![completed tasks a second over clients: {title_of(name, options)}](docs/measured-{name}.svg)", "",
              f"Completed tasks a second, as a ratio to the same TL2 in C++ without a proof, by {counts} clients, with "
-             f"bootstrap intervals of {estimates.SURE} of a hundred:", "",
+             f"{estimates.SURE} % confidence intervals (bootstrap):", "",
              "| Setting | TL2 in C++ | TL2 in C++, sequentially consistent |", "|---|---|---|"]
     for name, options in plan.settings.items():
         cells = [", ".join(ratio_cell(found[name, clients][OURS], found[name, clients][beside])
