@@ -161,7 +161,7 @@ def holds_readme(unpacked):
     here = text.split("**Source.**")[0]
     for name in re.findall(r"`([\w/]+)`", here):
         want((unpacked / name).exists(), f"README.md names {name}, which is not packed")
-    want("docs/JUDGE.md#three-steps" in text and len(text.splitlines()) <= 25, "the packed README.md")
+    want("docs/CHECK-STM.md" in text and len(text.splitlines()) <= 25, "the packed README.md")
     for page in sorted(unpacked.glob("**/*.md")):
         want(str(ROOT) not in page.read_text(encoding="utf-8"), f"{page.name} names a folder of this machine")
 
@@ -243,7 +243,7 @@ def holds_conversion(unpacked):
         return
     words = (sys.executable, "-B", unpacked / "convert", "porcupine", unpacked / "docs/histories/events.json")
     text = run(*words)
-    want(text in (unpacked / "docs/JUDGE.md").read_text(encoding="utf-8") and text.count("\n") == 3, text)
+    want(text in (unpacked / "docs/CHECK-DATA.md").read_text(encoding="utf-8") and text.count("\n") == 3, text)
     if not (unpacked / "kv_judge").is_file():
         skipped("kv_judge is not built")
         return

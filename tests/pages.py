@@ -16,7 +16,7 @@ sys.path.insert(0, str(ROOT / "tools"))
 import ledger
 import sizes
 
-PAGES = sorted([*ROOT.glob("*.md"), *(ROOT / "docs").glob("*.md")])
+PAGES = sorted([*ROOT.glob("*.md"), *(ROOT / "docs").glob("*.md"), *(ROOT / "benchmark").glob("**/README.md")])
 CRATES = ROOT / "crates"
 WIDEST = 100
 WIDEST_PROOF = 120
@@ -101,7 +101,7 @@ def holds_files(page):
 def holds_pieces(page):
     """A piece that names its file after its language stands in that file, line by line. (Those of the pages on
     crates of one's own, of which some stand in a crate that a tool makes, are held by tests/library_page.py.)"""
-    if page.name in ("LIBRARY.md", "OBJECTS.md"):
+    if page.name in ("LIBRARY.md", "CHECK-DATA.md"):
         return
     for name, piece in re.findall(r"^```\w+ (\S+)\n(.*?)^```$", page.read_text(), flags=re.M | re.S):
         place = ROOT / name
