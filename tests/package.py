@@ -283,8 +283,8 @@ def holds_manual(ours, share):
         want(len(re.findall(rf"(?:^| ){name} ", usages)) == len(options_of(words)), f"SYNOPSIS of {name}(1): {usages}")
         want("./" + name not in program + history, "a manual page names the script")
     want(all(word in history.split() for word in WORDS), "vacation-history(5)")
-    want("CLIENT BEGIN END LINE -> REPLY" in history, "vacation-history(5)")
-    want(all(word in history for word in ("commit|abort [r A V | w A V]", "put-if-absent", "illegal places")),
+    want('CLIENT BEGIN END OPERATION "->" REPLY LF' in history, "vacation-history(5)")
+    want(all(word in history for word in ('("commit" | "abort") { ("r" | "w")', "put-if-absent", "illegal places")),
          "vacation-history(5) on attempts and keys")
     keys = share / "man/man1/kv_judge.1"
     want(keys.exists() == (share.parent / "kv_judge").exists(), "there should be kv_judge(1) beside kv_judge alone")

@@ -165,7 +165,8 @@ def texts(release):
     """What goes beside the program, by its place in the tarball: bytes and mode."""
     day = time.strftime("%Y-%m-%d", time.gmtime(release.seconds))
     using, rules = page("docs/USING.md"), page("docs/RULES.md")
-    share = {"man/man5/vacation-history.5": manual.history_page(rules, using, release.title, day)}
+    history = manual.history_page(rules, using, page("docs/LOGS.md"), release.title, day)
+    share = {"man/man5/vacation-history.5": history}
     for name, whole in release.wholes.items():
         share[f"man/man1/{name}.1"] = manual.program_page(
             name, whole, release.commands[name], using, release.title, day, EXAMPLES[name])
