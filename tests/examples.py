@@ -58,14 +58,14 @@ def examples(page):
 
 
 def run(command, folder):
-    """What a command writes to standard output."""
+    """What a command writes to standard output, and to standard error."""
     ended = subprocess.run(
         ["bash", "-c", command], cwd=folder, stdin=subprocess.DEVNULL,
-        stdout=subprocess.PIPE, timeout=PATIENCE, check=False,
+        stdout=subprocess.PIPE, stderr=subprocess.PIPE, timeout=PATIENCE, check=False,
         env=os.environ | {"JUDGE": os.path.join(folder, "judge"), "KV_JUDGE": os.path.join(folder, KEYS),
                           "PATH": f"{folder}:{os.environ['PATH']}"},
     )
-    return ended.stdout.decode("latin-1")
+    return ended.stdout.decode("latin-1"), ended.stderr.decode("latin-1")
 
 
 def missing(command, has_keys):
@@ -105,13 +105,13 @@ def main():
                     skipped.append(lack)
                     continue
                 played += 1
-                written = run(command, folder)
+                written, told = run(command, folder)
                 if written != wanted:
                     failed += 1
                     print(f"examples: {page}, line {number}: {command}", file=sys.stderr)
-                    print(f"wanted:\n{wanted}written:\n{written}", file=sys.stderr)
-    told = f", {len(skipped)} skipped: there is no {' and no '.join(sorted(set(skipped)))}" if skipped else ""
-    print(f"examples: {played - failed} of {played} examples write what their pages say{told}")
+                    print(f"wanted:\n{wanted}written:\n{written}standard error:\n{told}", file=sys.stderr)
+    rest = f", {len(skipped)} skipped: there is no {' and no '.join(sorted(set(skipped)))}" if skipped else ""
+    print(f"examples: {played - failed} of {played} examples write what their pages say{rest}")
     return 1 if failed else 0
 
 
