@@ -307,7 +307,7 @@ def heading(plan, load):
         f"| {OURS} | {build(plan.ours.program)} |",
         f"| peers | {compiler[0]}, {os.environ.get('CXXFLAGS', '-O3')} |", "",
         "Answered tasks a second, in thousands, from when all clients stand ready to the last answer: "
-        f"medians, and their intervals by bootstrap ({estimates.SURE} of a hundred). All programs had the "
+        f"medians, with {estimates.SURE} % confidence intervals (bootstrap). All programs had the "
         f"same tasks, in all clients together as many for each number of clients: those that take {OURS} about "
         f"{plan.seconds:g} seconds by {named(plan.clients[0])}. Their runs were interleaved. Each client draws its tasks within the time{but}. "
         f"{tries}. Attempts a task are medians, for each number of clients. The history of a "

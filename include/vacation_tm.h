@@ -9,8 +9,8 @@
  *     built/peer ./mine.so --history --jitter 1 < work > log && ./judge history --given-order --tasks work < log
  *
  * `&&` is needed: a run that hung or crashed can end as `legal`, since tasks behind a client's pending
- * call do not count as missing. What to do if a verdict is not `legal` or `opaque`: docs/JUDGE.md, "The
- * memory or its tm_place".
+ * call do not count as missing. What to do if a verdict is not `legal` or `opaque`: docs/CHECK-STM.md, "If a
+ * verdict is not `opaque` or `legal`".
  *
  * Each client is a thread of its own and calls with its own value of `tm_client`. The functions are
  * written in any language that makes C symbols. Examples: share/vacation/templates.

@@ -20,6 +20,7 @@ import tempfile
 import time
 from concurrent.futures import ThreadPoolExecutor
 from contextlib import contextmanager
+from datetime import date
 from itertools import islice
 from pathlib import Path
 
@@ -32,16 +33,17 @@ from scripted import Memory, Tables, want
 from harness import runs
 from harness.clients import Behaviour
 from harness.crew import Crew, Target
-from harness.database import Strength
+from harness.database import Database, Strength
 from harness.faults import FAULTS, Fault
 from harness.judge import Programs, Verdict, judge
-from harness.outcomes import CutShort, Missing, NoEffect
+from harness.keyvalue import Store
+from harness.outcomes import CutShort, Damaged, Lost, Missing, NoEffect, Refused, Unknown
 from harness.progress import Progress
 from harness.processes import family, has_ended
 from harness.program import check_installed, databases, line_of
 from harness.runs import Plan, gaps
 from harness.sessions import StoreSession
-from harness.sql import SqlRules
+from harness.sql import Connection, SqlRules
 from harness.summary import FINE, NOTHING, WRONG, Summary
 from harness.tasks import draw_keys
 from harness.workers import side_by_side, workers
@@ -186,6 +188,34 @@ def holds_summaries():
         want((row.conclusion, summary.status) == (conclusion, status), f"{strength}, {verdicts}: {row.conclusion}")
         want(conclusion in summary.text().splitlines()[-1], f"the table: {summary.text()}")
     want(Summary().status == NOTHING, "the status if everything is skipped")
+
+
+# Runs of the cases below: fault, workload, promise, verdicts. Then what the page says of them.
+RESULTS = [
+    ("kill", "reservations", Strength.KEPT, [Verdict.LEGAL]), ("kill", "keys", Strength.KEPT, [Verdict.LEGAL] * 2),
+    ("power", "reservations", Strength.WRONG, [Verdict.ILLEGAL, Verdict.DAMAGED]),
+]
+PAGE = """Made on 2 May 2026 by `benchmark/databases/run`.
+
+| a 1.2 | kill | power | Calls |
+|---|---|---|--:|
+| `b` | [kept](https://example.org/manual): one legal; keys 2 of 2 | found: one illegal, 1 damaged | 35 |
+"""
+HEADLINE = ("**5 runs, 35 completed calls, 1 setting of 1 database. No documented promise was broken, in 2 cases and"
+            " 3 runs. Every planted mistake was found, in 2 of 2 runs.**\n")
+
+
+def holds_results():
+    """The page has a headline, and a matrix in which one judged run is told as one."""
+    summary = Summary()
+    for fault, workload, strength, verdicts in RESULTS:
+        source = "fsync does nothing" if strength is Strength.WRONG else "https://example.org/manual"
+        for verdict in verdicts:
+            summary.add({"database": "a:b", "fault": fault, "policy": "ask", "mistake": None, "version": "1.2",
+                         "workload": workload, "promise": strength.value, "source": source,
+                         "verdict": verdict.value, "counts": {"completed": 7}})
+    want(summary.markdown(date(2026, 5, 2)) == PAGE, f"the results of the page: {summary.markdown(date(2026, 5, 2))}")
+    want(summary.headline() == HEADLINE, f"the headline of the page: {summary.headline()}")
 
 
 def holds_side_by_side(folder):
@@ -339,11 +369,13 @@ def holds_missing():
 
 
 def holds_page():
-    """The whole file on the page is the one in the tree."""
-    page = (ROOT / "docs/DATABASES.md").read_text(encoding="utf-8")
-    whole = page.partition("```python\n")[2].partition("```")[0]
-    want(whole == (ROOT / "benchmark/databases/servers/mariadb.py").read_text(encoding="utf-8"),
-         "the file in docs/DATABASES.md is not servers/mariadb.py")
+    """The page on a new database names each part of its class, its connections and its errors; no file is too long."""
+    page = (ROOT / "benchmark/databases/README.md").read_text(encoding="utf-8")
+    for kind in (Database, Connection, Store):
+        for part in filter(lambda part: part[0] != "_", vars(kind)):
+            want(re.search(rf"`{part}\b", page), f"the page on a new database has no {kind.__name__}.{part}")
+    for error in (Refused, Lost, Unknown, Damaged):
+        want(f"| `{error.__name__}` |" in page, f"the page on a new database has no {error.__name__}")
     for file in (ROOT / "benchmark/databases/servers").glob("*.py"):
         count = len(file.read_text(encoding="utf-8").splitlines())
         want(count <= MOST_LINES, f"{file.name} has {count} lines")
@@ -561,7 +593,8 @@ def main():
             holds_rules(program)
             holds_keys()
             for test in (scripted.holds_policies, scripted.holds_tokens, scripted.holds_times,
-                         scripted.holds_kills, holds_schedules, holds_summaries, holds_missing, holds_page):
+                         scripted.holds_kills, holds_schedules, holds_summaries, holds_results, holds_missing,
+                         holds_page):
                 test()
             holds_pending()
             holds_side_by_side(folder)

@@ -1,13 +1,14 @@
 #!/usr/bin/env python3
-"""Runs the examples of README.md, docs/USING.md, docs/RULES.md and docs/JUDGE.md, and compares what they
-write with what the pages say. An example is a block of a page of which the first line begins with
-'$ ': each such line is a command for bash, and the lines behind it are what it writes. In a
-command './vacation' is the program, a file that is built already: the argument, or with none the
-one that the repository's last build left; './judge' is that beside it, and './explain', './convert' and the files of
-docs are there, too. So is 'kv_judge', if it is built in its crate beside that of the program; otherwise its examples
-are skipped. With --write the pages get what the commands that end in --help write, and nothing is compared."""
+"""Runs the examples of the pages below, and compares what they write with what the pages say. An example is a block of
+a page of which the first line begins with '$ ': each such line is a command for bash, and the lines behind it are what
+it writes. In a command './vacation' is the program, a file that is built already: the argument, or with none the one
+that the repository's last build left; './judge' is that beside it, and './explain', './convert' and the files of docs,
+include, share and benchmark are there, too. So is 'kv_judge', if it is built in its crate beside that of the program.
+Examples of what this machine does not have are skipped: that judge, or compilers of C and C++. With --write the pages get
+what the commands that end in --help write, and nothing is compared."""
 
 import os
+import shutil
 import subprocess
 import sys
 import tempfile
@@ -15,7 +16,10 @@ import tempfile
 import built
 
 ROOT = os.path.join(os.path.dirname(os.path.realpath(__file__)), "..")
-PAGES = ["README.md", "docs/USING.md", "docs/RULES.md", "docs/JUDGE.md"]
+PAGES = ["README.md", "docs/USING.md", "docs/RULES.md", "docs/CHECK-STM.md", "docs/CHECK-DATA.md", "docs/EXPLAIN.md",
+         "docs/LOGS.md", "docs/DATABASES.md", "benchmark/databases/README.md"]
+# How long a command may take, in seconds: one builds a peer, others run a database.
+PATIENCE = 300
 FENCE = "```"
 KEYS = "kv_judge"
 PROMPT = "$ "
@@ -55,13 +59,24 @@ def examples(page):
 
 
 def run(command, folder):
-    """What a command writes to standard output."""
+    """What a command writes to standard output, and to standard error."""
     ended = subprocess.run(
         ["bash", "-c", command], cwd=folder, stdin=subprocess.DEVNULL,
-        stdout=subprocess.PIPE, timeout=60, check=False,
-        env=os.environ | {"JUDGE": os.path.join(folder, "judge"), "PATH": f"{folder}:{os.environ['PATH']}"},
+        stdout=subprocess.PIPE, stderr=subprocess.PIPE, timeout=PATIENCE, check=False,
+        env=os.environ | {"JUDGE": os.path.join(folder, "judge"), "KV_JUDGE": os.path.join(folder, KEYS),
+                          "PATH": f"{folder}:{os.environ['PATH']}"},
     )
-    return ended.stdout.decode("latin-1")
+    return ended.stdout.decode("latin-1"), ended.stderr.decode("latin-1")
+
+
+def missing(command, has_keys):
+    """What a command needs and this machine does not have, or nothing."""
+    if not has_keys and (KEYS in command or "--judge" in command):
+        return KEYS
+    has_compilers = shutil.which("cc") and (shutil.which("g++") or shutil.which("c++"))
+    if not has_compilers and any(word in command for word in ("benchmark/build", "cc -", "built/")):
+        return "a C++ compiler"
+    return ""
 
 
 def with_helps(page, folder):
@@ -73,7 +88,7 @@ def with_helps(page, folder):
             if not is_left_out:
                 lines.append(line)
             if line.startswith(PROMPT) and line.endswith("--help"):
-                lines += run(line[len(PROMPT):], folder).splitlines()
+                lines += run(line[len(PROMPT):], folder)[0].splitlines()
                 is_left_out = True
     return "\n".join(lines)
 
@@ -95,12 +110,16 @@ def main():
         if not os.access(path, os.X_OK):
             sys.exit(f"examples: there is no program at {path}: './{name}' builds it")
     has_keys = os.access(keys, os.X_OK)
-    played = failed = skipped = 0
+    played = failed = 0
+    skipped = []
     with tempfile.TemporaryDirectory() as folder:
         os.symlink(os.path.realpath(program), os.path.join(folder, "vacation"))
         os.symlink(os.path.realpath(judge), os.path.join(folder, "judge"))
-        for name in ("explain", "convert", "docs"):
+        for name in ("explain", "convert", "docs", "include", "share"):
             os.symlink(os.path.realpath(os.path.join(ROOT, name)), os.path.join(folder, name))
+        # (a copy, since its scripts look for the programs above their own folder)
+        shutil.copytree(os.path.join(ROOT, "benchmark"), os.path.join(folder, "benchmark"),
+                        ignore=shutil.ignore_patterns("out", "__pycache__"))
         if has_keys:
             os.symlink(os.path.realpath(keys), os.path.join(folder, KEYS))
         if writes:
@@ -110,17 +129,17 @@ def main():
             if not found:
                 sys.exit(f"examples: there are no examples in {page}")
             for number, command, wanted in found:
-                if KEYS in command and not has_keys:
-                    skipped += 1
+                if lack := missing(command, has_keys):
+                    skipped.append(lack)
                     continue
                 played += 1
-                written = run(command, folder)
+                written, told = run(command, folder)
                 if written != wanted:
                     failed += 1
                     print(f"examples: {page}, line {number}: {command}", file=sys.stderr)
-                    print(f"wanted:\n{wanted}written:\n{written}", file=sys.stderr)
-    told = f", {skipped} skipped: {KEYS} is not built" if skipped else ""
-    print(f"examples: {played - failed} of {played} examples write what their pages say{told}")
+                    print(f"wanted:\n{wanted}written:\n{written}standard error:\n{told}", file=sys.stderr)
+    rest = f", {len(skipped)} skipped: there is no {' and no '.join(sorted(set(skipped)))}" if skipped else ""
+    print(f"examples: {played - failed} of {played} examples write what their pages say{rest}")
     return 1 if failed else 0
 
 

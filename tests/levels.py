@@ -1,6 +1,6 @@
 #!/usr/bin/env python3
 """Compares `judge order --level` and `judge history --level` with a search that stands here, written
-from docs/RULES.md and docs/JUDGE.md and apart from the program, over the model of the manager that all scripts share.
+from docs/RULES.md and docs/LOGS.md and apart from the program, over the model of the manager that all scripts share.
 The histories are small random ones, with pending and undetermined calls, and each is searched at each level of
 consistency. An order that the program writes is checked by the rules of its level. Then come the command lines that are
 refused. Its argument is the program; with none it is the one that the last build left."""

@@ -1,6 +1,6 @@
 #!/usr/bin/env python3
 """Compares `vacation opaque` with a naive judge that stands here, written from the words of opacity
-and the lines in docs/JUDGE.md, apart from the program: over random attempts of a few clients at a
+and the lines in docs/CHECK-STM.md, apart from the program: over random attempts of a few clients at a
 few words, in an order that is opaque and in one that is damaged in one place. For each attempt it
 looks through all lines before it, and keeps no words. With --place, if the program has that option,
 it compares drawn logs of up to six attempts with a search through all orders. Its argument is the

@@ -161,7 +161,7 @@ def holds_readme(unpacked):
     here = text.split("**Source.**")[0]
     for name in re.findall(r"`([\w/]+)`", here):
         want((unpacked / name).exists(), f"README.md names {name}, which is not packed")
-    want("docs/JUDGE.md#three-steps" in text and len(text.splitlines()) <= 25, "the packed README.md")
+    want("docs/CHECK-STM.md" in text and len(text.splitlines()) <= 25, "the packed README.md")
     for page in sorted(unpacked.glob("**/*.md")):
         want(str(ROOT) not in page.read_text(encoding="utf-8"), f"{page.name} names a folder of this machine")
 
@@ -243,7 +243,7 @@ def holds_conversion(unpacked):
         return
     words = (sys.executable, "-B", unpacked / "convert", "porcupine", unpacked / "docs/histories/events.json")
     text = run(*words)
-    want(text in (unpacked / "docs/JUDGE.md").read_text(encoding="utf-8") and text.count("\n") == 3, text)
+    want(text in (unpacked / "docs/CHECK-DATA.md").read_text(encoding="utf-8") and text.count("\n") == 3, text)
     if not (unpacked / "kv_judge").is_file():
         skipped("kv_judge is not built")
         return
@@ -283,8 +283,8 @@ def holds_manual(ours, share):
         want(len(re.findall(rf"(?:^| ){name} ", usages)) == len(options_of(words)), f"SYNOPSIS of {name}(1): {usages}")
         want("./" + name not in program + history, "a manual page names the script")
     want(all(word in history.split() for word in WORDS), "vacation-history(5)")
-    want("CLIENT BEGIN END LINE -> REPLY" in history, "vacation-history(5)")
-    want(all(word in history for word in ("commit|abort [r A V | w A V]", "put-if-absent", "illegal places")),
+    want('CLIENT BEGIN END OPERATION "->" REPLY LF' in history, "vacation-history(5)")
+    want(all(word in history for word in ('("commit" | "abort") { ("r" | "w")', "put-if-absent", "illegal places")),
          "vacation-history(5) on attempts and keys")
     keys = share / "man/man1/kv_judge.1"
     want(keys.exists() == (share.parent / "kv_judge").exists(), "there should be kv_judge(1) beside kv_judge alone")

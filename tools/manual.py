@@ -151,9 +151,14 @@ def code_of(lines):
     return "\n".join([".PP", ".in +4n", ".nf", *shown, ".fi", ".in"])
 
 
-def roff(text):
-    """A section of a page for the formatter."""
-    made = {"code": code_of, "text": lambda line: f".PP\n{marked(line)}",
+def grammar_of(lines):
+    """The lines of a grammar as they stand."""
+    return "\n".join([".PP", ".nf", *(f"\\&{literal(line)}" for line in lines), ".fi"])
+
+
+def roff(text, code=code_of):
+    """A section of a page for the formatter, and how its lines of code are shown."""
+    made = {"code": code, "text": lambda line: f".PP\n{marked(line)}",
             "item": lambda line: f".IP \\(bu 2\n{marked(line)}",
             "table": lambda table: table_of(table) + "\n.PP"}
     return "\n".join(made[kind](block) for kind, block in blocks(text))
@@ -216,16 +221,16 @@ def program_page(program, whole, commands, using, version, day, examples):
 
 
 def history_page(rules, using, logs, version, day):
-    """The manual page on the format of histories, from the pages on the rules, on the lines and on logs."""
+    """The manual page on the format of histories, from the pages on the rules, on the lines, and on logs."""
     run = section(using, "## `run`: commands and their replies")
     words = first("text", run, "KIND is")
     lines = [head("VACATION-HISTORY", 5, version, day, "File Formats"),
              ".SH NAME",
              "vacation-history \\- calls and attempts, as judge and kv_judge read them",
-             ".SH DESCRIPTION", roff(section(logs, "## Grammar")),
+             ".SH DESCRIPTION", roff(section(rules, "### Histories")),
+             ".SH GRAMMAR", roff(section(logs, "## Grammar"), grammar_of),
              ".SH CALLS WITHOUT AN END", roff(section(logs, "## Calls without an end")),
-             ".SH VERDICTS", roff(section(logs, "## Verdicts and statuses")),
-             ".SH HISTORIES OF RESERVATIONS", roff(section(rules, "### Histories")),
+             ".SH VERDICTS AND STATUSES", roff(section(logs, "## Verdicts and statuses")),
              ".SH LINES AND REPLIES", marked(words)]
     for heading in ("Items", "Customers and bookings", "Whole tasks"):
         lines += [f".SS {heading}", table_of(first("table", section(using, f"### {heading}")))]

@@ -21,8 +21,10 @@ import crate_pages
 import manual
 
 ROOT = Path(__file__).resolve().parent.parent
-PAGES = ("JUDGE.md", "DATABASES.md", "USING.md", "RULES.md", "PROMISES.md", "THEOREM.md", "GLOSSARY.md",
-         "MEASURED.md")
+PAGES = ("CHECK-STM.md", "CHECK-DATA.md", "EXPLAIN.md", "LOGS.md", "DATABASES.md", "USING.md", "RULES.md",
+         "PROMISES.md", "THEOREM.md", "GLOSSARY.md", "MEASURED.md")
+# Pages beside what they are about.
+OTHER_PAGES = ("benchmark/README.md", "benchmark/databases/README.md")
 LICENSES = ("LICENSE-MIT", "LICENSE-APACHE")
 # What is packed as it stands in the tree, beside pages and licenses: folders, files and pictures.
 AS_IT_STANDS = ("benchmark", "explain", "tools/explaining", "convert", "tools/converting", "include", "share",
@@ -116,16 +118,16 @@ A travel reservation system on a software transactional memory (`vacation`), and
 
 | You are .. | Begin with .. |
 |---|---|
-| the author of a transactional memory or a runtime | [Three steps](docs/JUDGE.md#three-steps), [A shared object](docs/JUDGE.md#a-shared-object) |
-| a database engineer | [Databases under faults](docs/DATABASES.md) |
-| somebody with logs of a key-value store or a map | [Judge etcd, Redis and lock-free maps](docs/JUDGE.md#judge-etcd-redis-and-lock-free-maps) |
+| the author of a transactional memory or a runtime | [Check your transactional memory](docs/CHECK-STM.md), [Logs](docs/LOGS.md) |
+| a database engineer | [Databases under faults](docs/DATABASES.md), [Why a log is illegal](docs/EXPLAIN.md) |
+| somebody with logs of a key-value store or a map | [Check your store, queue or map](docs/CHECK-DATA.md) |
 | a reader of the theorem | [Theorem](docs/THEOREM.md), [Promises](docs/PROMISES.md), [every clause](docs/clauses.txt), `docs/contracts` |
 | a user of the programs | [Using the programs](docs/USING.md), [Rules](docs/RULES.md), `man -l share/man/man1/judge.1` |
 | somebody who doubts the numbers | [Measured](docs/MEASURED.md), [The benchmark](benchmark/README.md) |
 
 **What is proved** is said in [PROVED](PROVED), with the commit, the toolchain and the assumptions. It is said of {programs} alone. Not proved: the scripts `explain` and `convert`, and all of `benchmark`, `include` and `share`; they are tested.
 
-**Source.** Specifications, proofs and tests are in the source tree, in the language Rattle. The source tree and Rattle have no public address yet: ask whoever gave you this folder. The pages are those of the source tree. Only there is what they name below `crates/`, `tests/` and `tools/` (except `tools/explaining` and `tools/converting`), and `./dev`, `./test`, and pages that `docs` here does not have. The judge of a queue (`queue_judge`) and the page on judges of other objects (`OBJECTS.md`) are there too; `rt` is Rattle's.
+**Source.** Specifications, proofs and tests are in the source tree, in the language Rattle. The source tree and Rattle have no public address yet: ask whoever gave you this folder. The pages are those of the source tree. Only there is what they name below `crates/`, `tests/` and `tools/` (except `tools/explaining` and `tools/converting`), and `./dev`, `./test`, and pages that `docs` here does not have. The judge of a queue (`queue_judge`) and `tools/new_object` are there too; `rt` is Rattle's.
 """
 
 
@@ -158,7 +160,7 @@ def without_dead_links(name, text, packed):
 
 def pages():
     """The pages that are packed, and those of the crates, which are made here."""
-    found = {name: page(name) for name in ("benchmark/README.md", *(f"docs/{name}" for name in PAGES))}
+    found = {name: page(name) for name in (*OTHER_PAGES, *(f"docs/{name}" for name in PAGES))}
     found |= {f"docs/contracts/{name}": text for name, text in crate_pages.pages().items()}
     packed = {*found, *files_as_they_stand()}
     return {name: without_dead_links(name, text, packed) for name, text in found.items()}
@@ -167,8 +169,9 @@ def pages():
 def texts(release):
     """What goes beside the program, by its place in the tarball: bytes and mode."""
     day = time.strftime("%Y-%m-%d", time.gmtime(release.seconds))
-    using, rules, logs = page("docs/USING.md"), page("docs/RULES.md"), page("docs/LOGS.md")
-    share = {"man/man5/vacation-history.5": manual.history_page(rules, using, logs, release.title, day)}
+    using, rules = page("docs/USING.md"), page("docs/RULES.md")
+    history = manual.history_page(rules, using, page("docs/LOGS.md"), release.title, day)
+    share = {"man/man5/vacation-history.5": history}
     for name, whole in release.wholes.items():
         share[f"man/man1/{name}.1"] = manual.program_page(
             name, whole, release.commands[name], using, release.title, day, EXAMPLES[name])

@@ -24,7 +24,7 @@ CONNECT_PATIENCE = 120.0
 END_PATIENCE = 120.0
 # How long the status of a process that has ended may take to be known, in seconds.
 STATUS_PATIENCE = 5.0
-# Histories with more pending calls are mostly not decided by the judge.
+# A run ends when its pending calls and its clients come to so many: the judge decides its history within seconds.
 MOST_PENDING = 10
 
 
@@ -164,7 +164,7 @@ class Crew:
         return counts["lost"] + counts["unknown"]
 
     def has_enough_pending(self) -> bool:
-        """Returns whether a call is pending, and the judge may not decide the history with one more of each client."""
+        """Returns whether a call is pending, and with one more of each client there were too many."""
         pending = self.counts()["pending"]
         return pending > 0 and pending + len(self._tasks) >= MOST_PENDING
 

@@ -1,5 +1,5 @@
 """What the author of a database file writes: one `Database` with its `Setting`s, in one file of the folder
-`servers`. The name of the file is the name of the database; `docs/DATABASES.md` goes through an example.
+`servers`. The name of the file is the name of the database; `benchmark/databases/README.md` goes through the parts.
 
 A client's connection is a `Connection` (module `sql`), to which the harness sends the rules of docs/RULES.md
 in SQL, or a `Store` (module `keyvalue`), over which the harness runs the same rules on keys and values. Both

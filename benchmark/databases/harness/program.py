@@ -32,8 +32,8 @@ ROOT = HOME.parent.parent
 ALL, BOTH = "all", "both"
 # Runs side by side: each has phases in which it waits, and a workload that keeps the processors busy.
 JOBS = max(1, len(os.sched_getaffinity(0)) // 2)
-# Marks in a page between which the table of results stands.
-TABLE_BEGINS, TABLE_ENDS = "<!-- results: begin -->", "<!-- results: end -->"
+# Marks in a page between which the headline stands, and the table of results.
+HEADLINE, RESULTS = "headline", "results"
 
 
 def databases() -> dict[str, Database]:
@@ -80,7 +80,7 @@ def read_options(arguments: list[str]) -> argparse.Namespace:
                         help=f"how many of a hundred tasks only read (default: {READS})")
     parser.add_argument("--keep", type=Path, metavar="FOLDER", help="keeps histories, records and server logs")
     parser.add_argument("--table", type=Path, metavar="PAGE",
-                        help="writes the table of results into a page; with --keep, of all runs that the folder keeps")
+                        help="writes headline and results into a page; with --keep, of all runs that the folder keeps")
     parser.add_argument("--mistake", choices=[mistake.value for mistake in Mistake],
                         help="WRONG ON PURPOSE: tasks split in two transactions; a recorder that forgets pending"
                         " calls, takes the end before the commit, or goes on with a client after a pending call")
@@ -229,12 +229,19 @@ def summary_of(folder: Path) -> Summary:
     return summary
 
 
-def write_table(page: Path, text: str) -> None:
-    """Replaces the table between the marks of a page."""
-    before, begin, rest = page.read_text(encoding="utf-8").partition(TABLE_BEGINS)
-    _, end, after = rest.partition(TABLE_ENDS)
+def write_results(page: Path, summary: Summary, day: date) -> None:
+    """Replaces the headline and the table between the marks of a page."""
+    write_between(page, HEADLINE, summary.headline())
+    write_between(page, RESULTS, summary.markdown(day))
+
+
+def write_between(page: Path, mark: str, text: str) -> None:
+    """Replaces the text between two marks of a page."""
+    begins, ends = f"<!-- {mark}: begin -->", f"<!-- {mark}: end -->"
+    before, begin, rest = page.read_text(encoding="utf-8").partition(begins)
+    _, end, after = rest.partition(ends)
     if not begin or not end:
-        raise CutShort(f"{page} has no marks {TABLE_BEGINS} and {TABLE_ENDS}")
+        raise CutShort(f"{page} has no marks {begins} and {ends}")
     page.write_text(f"{before}{begin}\n\n{text}\n{end}{after}", encoding="utf-8")
 
 
@@ -286,5 +293,5 @@ def main(arguments: list[str]) -> int:
     print(summary.text())
     if options.table:
         kept = summary_of(options.keep) if options.keep else summary
-        write_table(options.table, kept.markdown(date.today()))
+        write_results(options.table, kept, date.today())
     return summary.status

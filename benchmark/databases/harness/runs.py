@@ -241,7 +241,7 @@ class Run:
             time.sleep(0.02)
 
     def _must_end(self, crew: Crew) -> bool:
-        """Returns whether the run has to end early, since the judge decides few pending calls."""
+        """Returns whether the run has to end early, since a history has enough pending calls."""
         if self._plan.policy is Policy.LEAVE and crew.has_enough_pending():
             self.trace.ended_early = f"ended early; pending calls: {crew.counts()['pending']}"
         return bool(self.trace.ended_early)
