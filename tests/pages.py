@@ -1,7 +1,7 @@
 #!/usr/bin/env python3
 """Holds the pages against the tree: the snapshot of clauses, files that the pages name and pieces of them, crates in their
-order, the index, modules, the walks of a call, the number of rows, the sizes of the statements, lines beyond column 100
-(of proofs, 120), and the toolchain's name. Checks that each link leads to a file and a heading, and that no sentence by
+order, modules, the walks of a call, the number of rows, the sizes of the statements, lines beyond column 100 (of
+proofs, 120), and the toolchain's name. Checks that each link leads to a file and a heading, and that no sentence by
 hand is longer than its limit. Holds the plants against the tree too: their texts, and what they name. Needs no built
 program."""
 
@@ -13,9 +13,9 @@ from pathlib import Path
 ROOT = Path(__file__).resolve().parent.parent
 sys.path.insert(0, str(ROOT / "tools"))
 
-import index
 import ledger
 import sizes
+import tree_index
 
 PAGES = sorted([*ROOT.glob("*.md"), *(ROOT / "docs").glob("*.md")])
 CRATES = ROOT / "crates"
@@ -55,8 +55,8 @@ def holds_crates(crates):
 
 def holds_index():
     """The index has the crates and the files of definitions of the tree, with their first sentences."""
-    if index.PAGE.read_text() != index.made():
-        fault(index.PAGE, "is not that of the tree: tools/index.py writes it")
+    if tree_index.PAGE.read_text() != tree_index.made():
+        fault(tree_index.PAGE, "is not that of the tree: tools/tree_index.py writes it")
 
 
 def file_is_there(name, folder):

@@ -13,7 +13,7 @@ ROOT = Path(__file__).resolve().parent.parent
 PAGE = ROOT / "docs" / "INDEX.md"
 HEAD = """# Index
 
-`tools/index.py` writes this page from the first sentences of the files, and `tests/pages.py` compares it with them. It \
+`tools/tree_index.py` writes this page from the first sentences of the files, and `tests/pages.py` compares it with them. It \
 is for looking up where a rule lives: search for a word of the rule. [Architecture](ARCHITECTURE.md) explains the whole.
 """
 
@@ -59,9 +59,9 @@ def made():
 def main():
     if sys.argv[1:] == ["--check"]:
         if PAGE.read_text() != made():
-            sys.exit("docs/INDEX.md is not that of the tree: tools/index.py writes it")
+            sys.exit("docs/INDEX.md is not that of the tree: tools/tree_index.py writes it")
     elif sys.argv[1:]:
-        sys.exit("usage: tools/index.py [--check]")
+        sys.exit("usage: tools/tree_index.py [--check]")
     else:
         PAGE.write_text(made())
 
