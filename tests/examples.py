@@ -5,7 +5,7 @@ write with what the pages say. An example is a block of a page of which the firs
 command './vacation' is the program, a file that is built already: the argument, or with none the
 one that the repository's last build left; './judge' is that beside it, and './explain', './convert' and the files of
 docs are there, too. So is 'kv_judge', if it is built in its crate beside that of the program; otherwise its examples
-are skipped. With --write the pages get what the commands that end in --help write, and nothing is compared."""
+are skipped."""
 
 import os
 import subprocess
@@ -64,32 +64,7 @@ def run(command, folder):
     return ended.stdout.decode("latin-1")
 
 
-def with_helps(page, folder):
-    """The text of a page, in which each command that ends in --help writes what it writes now."""
-    lines, is_left_out = [], False
-    with open(page, encoding="utf-8") as file:
-        for line in file.read().split("\n"):
-            is_left_out = is_left_out and not line.startswith((PROMPT, FENCE))
-            if not is_left_out:
-                lines.append(line)
-            if line.startswith(PROMPT) and line.endswith("--help"):
-                lines += run(line[len(PROMPT):], folder).splitlines()
-                is_left_out = True
-    return "\n".join(lines)
-
-
-def write_helps(folder):
-    """Writes the helps into all pages."""
-    for name in PAGES:
-        page = os.path.join(ROOT, name)
-        text = with_helps(page, folder)
-        with open(page, "w", encoding="utf-8") as file:
-            file.write(text)
-
-
 def main():
-    writes = "--write" in sys.argv
-    sys.argv = [word for word in sys.argv if word != "--write"]
     program, judge, keys = built.vacation(), built.judge(), built.other(KEYS)
     for name, path in (("vacation", program), ("judge", judge)):
         if not os.access(path, os.X_OK):
@@ -103,8 +78,6 @@ def main():
             os.symlink(os.path.realpath(os.path.join(ROOT, name)), os.path.join(folder, name))
         if has_keys:
             os.symlink(os.path.realpath(keys), os.path.join(folder, KEYS))
-        if writes:
-            return write_helps(folder)
         for page in PAGES:
             found = examples(os.path.join(ROOT, page))
             if not found:

@@ -92,7 +92,7 @@ def holds_files(page):
 def holds_pieces(page):
     """A piece that names its file after its language stands in that file, line by line. (Those of the pages on
     crates of one's own, of which some stand in a crate that a tool makes, are held by tests/library_page.py.)"""
-    if page.name in ("LIBRARY.md", "LIBRARY-REFERENCE.md", "OBJECTS.md"):
+    if page.name in ("LIBRARY.md", "OBJECTS.md"):
         return
     for name, piece in re.findall(r"^```\w+ (\S+)\n(.*?)^```$", page.read_text(), flags=re.M | re.S):
         place = ROOT / name

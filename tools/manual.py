@@ -144,8 +144,7 @@ def table_of(table):
 
 def code_of(lines):
     """Lines as they stand, of a program that is installed."""
-    lines = [line.replace(" | ", " |\n      ") if line.startswith("$ ") else line for line in lines]
-    installed = re.sub(r"\./(vacation|judge|kv_judge)\b", r"\1", "\n".join(lines))
+    installed = re.sub(r"\./(vacation|judge|kv_judge)\b", r"\1", "\n".join(lines)).replace(" | ", " |\n      ")
     shown = [literal(line) for line in installed.split("\n")]
     shown = [f"\\&{line}" if line[:1] in (".", "\\") else line for line in shown]
     return "\n".join([".PP", ".in +4n", ".nf", *shown, ".fi", ".in"])
@@ -215,17 +214,14 @@ def program_page(program, whole, commands, using, version, day, examples):
     return "\n".join(lines) + "\n"
 
 
-def history_page(rules, using, logs, version, day):
-    """The manual page on the format of histories, from the pages on the rules, on the lines and on logs."""
+def history_page(rules, using, version, day):
+    """The manual page on the format of histories, from the pages on the rules and on the lines."""
     run = section(using, "## `run`: commands and their replies")
     words = first("text", run, "KIND is")
     lines = [head("VACATION-HISTORY", 5, version, day, "File Formats"),
              ".SH NAME",
              "vacation-history \\- calls and attempts, as judge and kv_judge read them",
-             ".SH DESCRIPTION", roff(section(logs, "## Grammar")),
-             ".SH CALLS WITHOUT AN END", roff(section(logs, "## Calls without an end")),
-             ".SH VERDICTS", roff(section(logs, "## Verdicts and statuses")),
-             ".SH HISTORIES OF RESERVATIONS", roff(section(rules, "### Histories")),
+             ".SH DESCRIPTION", roff(section(rules, "### Histories")),
              ".SH LINES AND REPLIES", marked(words)]
     for heading in ("Items", "Customers and bookings", "Whole tasks"):
         lines += [f".SS {heading}", table_of(first("table", section(using, f"### {heading}")))]

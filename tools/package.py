@@ -162,8 +162,8 @@ def pages():
 def texts(release):
     """What goes beside the program, by its place in the tarball: bytes and mode."""
     day = time.strftime("%Y-%m-%d", time.gmtime(release.seconds))
-    using, rules, logs = page("docs/USING.md"), page("docs/RULES.md"), page("docs/LOGS.md")
-    share = {"man/man5/vacation-history.5": manual.history_page(rules, using, logs, release.title, day)}
+    using, rules = page("docs/USING.md"), page("docs/RULES.md")
+    share = {"man/man5/vacation-history.5": manual.history_page(rules, using, release.title, day)}
     for name, whole in release.wholes.items():
         share[f"man/man1/{name}.1"] = manual.program_page(
             name, whole, release.commands[name], using, release.title, day, EXAMPLES[name])
