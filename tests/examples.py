@@ -4,8 +4,7 @@ a page of which the first line begins with '$ ': each such line is a command for
 it writes. In a command './vacation' is the program, a file that is built already: the argument, or with none the one
 that the repository's last build left; './judge' is that beside it, and './explain', './convert' and the files of docs,
 include, share and benchmark are there, too. So is 'kv_judge', if it is built in its crate beside that of the program.
-Examples of what this machine does not have are skipped: that judge, or compilers of C and C++. With --write the pages get
-what the commands that end in --help write, and nothing is compared."""
+Examples of what this machine does not have are skipped: that judge, or compilers of C and C++."""
 
 import os
 import shutil
@@ -79,32 +78,7 @@ def missing(command, has_keys):
     return ""
 
 
-def with_helps(page, folder):
-    """The text of a page, in which each command that ends in --help writes what it writes now."""
-    lines, is_left_out = [], False
-    with open(page, encoding="utf-8") as file:
-        for line in file.read().split("\n"):
-            is_left_out = is_left_out and not line.startswith((PROMPT, FENCE))
-            if not is_left_out:
-                lines.append(line)
-            if line.startswith(PROMPT) and line.endswith("--help"):
-                lines += run(line[len(PROMPT):], folder)[0].splitlines()
-                is_left_out = True
-    return "\n".join(lines)
-
-
-def write_helps(folder):
-    """Writes the helps into all pages."""
-    for name in PAGES:
-        page = os.path.join(ROOT, name)
-        text = with_helps(page, folder)
-        with open(page, "w", encoding="utf-8") as file:
-            file.write(text)
-
-
 def main():
-    writes = "--write" in sys.argv
-    sys.argv = [word for word in sys.argv if word != "--write"]
     program, judge, keys = built.vacation(), built.judge(), built.other(KEYS)
     for name, path in (("vacation", program), ("judge", judge)):
         if not os.access(path, os.X_OK):
@@ -122,8 +96,6 @@ def main():
                         ignore=shutil.ignore_patterns("out", "__pycache__"))
         if has_keys:
             os.symlink(os.path.realpath(keys), os.path.join(folder, KEYS))
-        if writes:
-            return write_helps(folder)
         for page in PAGES:
             found = examples(os.path.join(ROOT, page))
             if not found:

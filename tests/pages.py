@@ -24,7 +24,10 @@ WIDEST_PROOF = 120
 LONGEST = 40
 # The most words of a paragraph, and of a page: the pages named here keep both.
 LONGEST_PARAGRAPH = 90
-MOST_WORDS = {"README.md": 1200, "THEOREM.md": 2200, "PROMISES.md": 2600, "GLOSSARY.md": 800}
+MOST_WORDS = {"README.md": 1200, "THEOREM.md": 2200, "PROMISES.md": 2600, "GLOSSARY.md": 800, "LIBRARY.md": 2900,
+              "LIBRARY-REFERENCE.md": 1500, "START.md": 900, "USING.md": 3700, "RULES.md": 3000, "EVENTS.md": 1400,
+              "CONTRIBUTING.md": 1300, "GATE.md": 900, "ARCHITECTURE.md": 950, "DECISIONS.md": 2700,
+              "CHECK-STM.md": 1700, "CHECK-DATA.md": 2000, "EXPLAIN.md": 700, "LOGS.md": 2600}
 LONG_STILL = set()
 faults = []
 
@@ -89,7 +92,7 @@ def holds_files(page):
 def holds_pieces(page):
     """A piece that names its file after its language stands in that file, line by line. (Those of the pages on
     crates of one's own, of which some stand in a crate that a tool makes, are held by tests/library_page.py.)"""
-    if page.name in ("LIBRARY.md", "LIBRARY-REFERENCE.md", "CHECK-DATA.md"):
+    if page.name in ("LIBRARY.md", "CHECK-DATA.md"):
         return
     for name, piece in re.findall(r"^```\w+ (\S+)\n(.*?)^```$", page.read_text(), flags=re.M | re.S):
         place = ROOT / name

@@ -16,8 +16,8 @@ from pathlib import Path
 
 import budget
 import crate_pages
-import index
 import rattle
+import tree_index
 
 TOP = Path(__file__).resolve().parent.parent
 SNAPSHOT = TOP / "docs" / "clauses.txt"
@@ -82,7 +82,7 @@ def check():
         sys.exit("docs/clauses.txt differs from the tree: compare the clauses by git diff after ./dev contracts --write")
     if budget.table_differs():
         sys.exit("docs/PROMISES.md: the sizes of the statements differ: ./dev contracts --write")
-    if index.PAGE.read_text(encoding="utf-8") != index.made():
+    if tree_index.PAGE.read_text(encoding="utf-8") != tree_index.made():
         sys.exit("docs/INDEX.md is not that of the tree: ./dev contracts --write")
 
 
@@ -107,7 +107,7 @@ def main():
     if words.write:
         SNAPSHOT.write_text(snapshot(), encoding="utf-8")
         budget.write_table()
-        index.PAGE.write_text(index.made(), encoding="utf-8")
+        tree_index.PAGE.write_text(tree_index.made(), encoding="utf-8")
     elif words.check:
         check()
     elif words.since:

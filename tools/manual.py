@@ -144,8 +144,7 @@ def table_of(table):
 
 def code_of(lines):
     """Lines as they stand, of a program that is installed."""
-    lines = [line.replace(" | ", " |\n      ") if line.startswith("$ ") else line for line in lines]
-    installed = re.sub(r"\./(vacation|judge|kv_judge)\b", r"\1", "\n".join(lines))
+    installed = re.sub(r"\./(vacation|judge|kv_judge)\b", r"\1", "\n".join(lines)).replace(" | ", " |\n      ")
     shown = [literal(line) for line in installed.split("\n")]
     shown = [f"\\&{line}" if line[:1] in (".", "\\") else line for line in shown]
     return "\n".join([".PP", ".in +4n", ".nf", *shown, ".fi", ".in"])

@@ -21,7 +21,7 @@ import crate_pages
 import manual
 
 ROOT = Path(__file__).resolve().parent.parent
-PAGES = ("CHECK-STM.md", "CHECK-DATA.md", "EXPLAIN.md", "LOGS.md", "DATABASES.md", "USING.md", "RULES.md",
+PAGES = ("CHECK-STM.md", "CHECK-DATA.md", "EXPLAIN.md", "LOGS.md", "EVENTS.md", "DATABASES.md", "USING.md", "RULES.md",
          "PROMISES.md", "THEOREM.md", "GLOSSARY.md", "MEASURED.md")
 # Pages beside what they are about.
 OTHER_PAGES = ("benchmark/README.md", "benchmark/databases/README.md")
