@@ -22,8 +22,9 @@ CRATES = ROOT / "crates"
 WIDEST = 100
 WIDEST_PROOF = 120
 LONGEST = 40
-# The most words of a paragraph, and of a page: the pages named here keep both.
+# The most words of a paragraph, but for the list of changes and what is measured, and of some pages.
 LONGEST_PARAGRAPH = 90
+LONG_PARAGRAPHS = {"CHANGELOG.md", "MEASURED.md"}
 MOST_WORDS = {"README.md": 1200, "THEOREM.md": 2200, "PROMISES.md": 2600, "GLOSSARY.md": 800, "LIBRARY.md": 2900,
               "LIBRARY-REFERENCE.md": 1500, "START.md": 900, "USING.md": 3700, "RULES.md": 3000, "EVENTS.md": 1400,
               "CONTRIBUTING.md": 1300, "GATE.md": 900, "ARCHITECTURE.md": 950, "DECISIONS.md": 2700,
@@ -183,12 +184,10 @@ def holds_lengths():
     """Pages and their paragraphs have no more words than their limits. Lists of contracts and definitions are no
     paragraphs."""
     for page in PAGES:
-        if page.name not in MOST_WORDS:
-            continue
         count = words(page.read_text())
-        if count > MOST_WORDS[page.name]:
+        if count > MOST_WORDS.get(page.name, count):
             fault(page, f"{count} words, more than {MOST_WORDS[page.name]}")
-        for line in without_code(page).splitlines():
+        for line in without_code(page).splitlines() if page.name not in LONG_PARAGRAPHS else ():
             if words(line) > LONGEST_PARAGRAPH and not re.match(r"\||- (?:Contract|Definition)\b", line):
                 fault(page, f"a paragraph of {words(line)} words: {line[:60]} ..")
 

@@ -11,8 +11,9 @@ ROOT = Path(__file__).resolve().parent.parent
 PAGE = ROOT / "docs" / "INDEX.md"
 HEAD = """# Index
 
-`./dev contracts --write` writes this page from the first sentences of the files, and `tests/pages.py` compares it with them. It \
-is for looking up where a rule lives: search for a word of the rule. [Architecture](ARCHITECTURE.md) explains the whole.
+`./dev contracts --write` writes this page from the first sentences of the files, and `tests/pages.py` compares it with \
+them. It is for looking up where a rule lives: search for a word of the rule. [Architecture](ARCHITECTURE.md) explains \
+the whole.
 """
 
 
