@@ -9,7 +9,7 @@ use Rattle.vac_model.specs.declared.limits.TheConstants.{MOST_BLOCKS, MOST_PARTS
 use Rattle.load_tasks.specs.declared.settings.TheConstants.{MOST_CLIENTS, MOST_TASKS, MOST_ITEMS}
 use Rattle.load_tasks.specs.declared.settings.TheConstants.{MOST_ROUNDS, PERCENT}
 use Rattle.load_tasks.specs.declared.settings.Settings.{Settings}
-use Rattle.stm_core.specs.declared.version.TheConstants.{VERSION_LIMIT}
+use Rattle.load_tasks.specs.declared.settings.TheConstants.{VERSION_LIMIT}
 use Rattle.cli_common.specs.declared.values.TheConstants.{MOST_NUMBER}
 use Rattle.cli_common.specs.Options.{number_option, any_number_option, short_option, blocks_option}
 use Rattle.cli_common.specs.Options.{flag, with_options, with_commands}

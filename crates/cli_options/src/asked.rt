@@ -10,9 +10,8 @@ ghost use Rattle.cli_options.specs.CommandLine.{HasFlags, IsTold, IsFoundIn, Ask
 use crate::options::command_line;
 use clap::{ArgMatches, Error};
 use cli_common::{any_number_of, blocks_of, flag_of, named, number_of};
-use load_tasks::Settings;
+use load_tasks::{Settings, VERSION_LIMIT};
 use std::alloc::Global;
-use stm_core::VERSION_LIMIT;
 
 /// Attempts of a task in the settings of a load that is only drawn and not run. The tasks are the
 /// same for any number.

@@ -13,6 +13,8 @@ mod clients;
 #[cfg(test)]
 mod draws;
 #[cfg(test)]
+mod heap;
+#[cfg(test)]
 mod in_place;
 #[cfg(test)]
 mod lines;

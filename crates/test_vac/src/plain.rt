@@ -1,6 +1,7 @@
 //! Random tasks over plain memory, compared with the plain manager.
 
 use crate::draws::{BLOCKS, TASKS, draw_task};
+use crate::heap::Heap;
 use crate::same::same;
 use rand_core::Rng;
 use rand_pcg::Pcg32;
@@ -11,7 +12,7 @@ use tx_alloc::place::LISTS;
 use vac_audit::audit_words;
 use vac_model::{Reply, Task};
 use vac_sequential::Sequential;
-use vac_tasks::{Heap, only_reads};
+use vac_tasks::only_reads;
 
 /// Number of seeds from which random tasks are drawn.
 const SEEDS: u64 = 4;

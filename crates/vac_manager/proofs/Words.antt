@@ -1,32 +1,18 @@
 -- Plain memory of words that represent a state, and its report.
-use Rattle.std.proofs.Common.{◌≡◌, inl, inr, ℕ, List, Option, Some, None, length, slice_index, unwrap_or, refl, sym, ap}
-use Rattle.std.proofs.Common.{◌∙◌, subst, arith}
+use Rattle.std.proofs.Common.{◌≡◌, ℕ, List, Option, Some, None, length, refl, sym, subst, arith}
 use Rattle.std.specs.FinMap.{get-empty}
 use Rattle.std.specs.Ordering.{nat_cmp}
-use Rattle.std.proofs.lemmas.List.{get_or_past}
-use Rattle.std.proofs.lemmas.Bool.{cases_lt}
-use Rattle.tx_memory.specs.View.{memory, Sees}
-use Rattle.tx_memory.specs.Plain.{numbered, flat_view}
-use Rattle.tx_memory.specs.PlainSeen.{get_at, get_behind}
+use Rattle.tx_memory.specs.View.{Sees}
+use Rattle.tx_memory.specs.Plain.{flat_view}
 use Rattle.vac_model.specs.declared.replies.Report.{Report}
 use Rattle.vac_model.specs.State.{State, report}
-use Rattle.vac_records.specs.Items.{mem}
 use Rattle.vac_records.specs.InMemory.{HoldsState}
+use Rattle.vac_records.proofs.PlainMemory.{flat_mem}
 use Rattle.vac_tasks.specs.Reported.{Reported}
-use Rattle.vac_manager.specs.Law.{Shows, IsFitting, memory_of_image}
+use Rattle.vac_manager.specs.Law.{Shows, IsFitting}
 
 none_some : (o : Option ℕ) (v : ℕ) → o ≡ None → o ≡ Some v → ⊥
 none_some o v e f = cc
-
-flat_at : (xs image : List ℕ) (a : ℕ) → length image ≡ length xs → memory image (numbered 0 xs) a ≡ slice_index xs a
-flat_at xs image a e = elim (cases_lt a (length xs)) [
-  | inl inside ↦ ap (λ (o : Option ℕ). unwrap_or o (slice_index image a)) (get_at xs a inside)
-  | inr behind ↦ ap (λ (o : Option ℕ). unwrap_or o (slice_index image a)) (get_behind xs 0 a (omega arith)) ∙
-      (get_or_past image a 0 (omega arith) ∙ sym (get_or_past xs a 0 behind))
-]
-
-flat_mem : (xs image : List ℕ) → length image ≡ length xs → mem (flat_view xs) image ≡ memory_of_image xs
-flat_mem xs image e = λ i a. flat_at xs image a e i
 
 -- words that represent a state, as plain memory
 pub fitting_holds : (words xs : List ℕ) → xs ≡ words → IsFitting words → HoldsState (flat_view xs)

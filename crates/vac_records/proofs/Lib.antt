@@ -23,3 +23,4 @@ pub mod Hanging
 pub mod Billing
 pub mod Bridges
 pub mod AfterReads
+pub mod PlainMemory

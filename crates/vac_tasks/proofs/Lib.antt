@@ -33,4 +33,3 @@ pub mod ItemWalk
 pub mod BookingWalk
 pub mod CustomerWalk
 pub mod Reports
-pub mod Heaps

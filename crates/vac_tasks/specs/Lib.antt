@@ -10,4 +10,3 @@ pub mod Starts
 pub mod CustomerSteps
 pub mod Sums
 pub mod Reported
-pub mod PlainState

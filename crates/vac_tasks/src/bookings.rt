@@ -131,7 +131,7 @@ pub fn reserve_at<M: TxMem>(
 /// item or of a later item stands before that link. The call leaves in `from` a link before which
 /// no booking of a later item stands. A caller that books items in ascending order of kind and id
 /// thus walks the list once.
-pub fn reserve_from<M: TxMem>(
+pub(crate) fn reserve_from<M: TxMem>(
     memory: &mut M,
     who: CustomerAt,
     what: ItemAt,

@@ -1,6 +1,6 @@
 use Rattle.std.proofs.Common.{arith}
 use Rattle.vac_records.proofs.Fresh.{spread_state}
-use Rattle.vac_tasks.proofs.Heaps.{free_holds}
+use Rattle.vac_records.proofs.PlainMemory.{free_holds}
 use Rattle.test_heap.proofs.reports.no_entries.Goals as goal
 
 pub report-requires : goal.report-requires

@@ -18,23 +18,13 @@ use Rattle.tx_alloc.specs.Spread.{IsSpreadHeap, spread_lists}
 use Rattle.vac_records.specs.Items.{mem}
 use Rattle.vac_records.specs.Represents.{Represents, IsState}
 use Rattle.vac_records.proofs.Fresh.{spread_state}
+use Rattle.vac_records.proofs.PlainMemory.{flat_mem, free_holds}
 use Rattle.vac_tasks.specs.Ran.{IsOutcome}
 use Rattle.vac_tasks.specs.RanTask.{RanTask}
 use Rattle.vac_tasks.specs.Reported.{Reported}
-use Rattle.vac_tasks.specs.PlainState.{IsStateOf}
+use Rattle.test_vac.specs.PlainState.{IsStateOf}
 use Rattle.vac_records.specs.InMemory.{HoldsState, OnlyRead}
 use Rattle.vac_records.specs.Steps.{stood}
-
--- the words of plain memory over any image of its size
-flat_at : (xs image : List ℕ) (a : ℕ) → length image ≡ length xs → memory image (numbered 0 xs) a ≡ slice_index xs a
-flat_at xs image a e = elim (cases_lt a (length xs)) [
-  | inl inside ↦ ap (λ (o : Option ℕ). unwrap_or o (slice_index image a)) (get_at xs a inside)
-  | inr behind ↦ ap (λ (o : Option ℕ). unwrap_or o (slice_index image a)) (get_behind xs 0 a (omega arith)) ∙
-      (get_or_past image a 0 (omega arith) ∙ sym (get_or_past xs a 0 behind))
-]
-
-flat_mem : (xs image : List ℕ) → length image ≡ length xs → mem (flat_view xs) image ≡ slice_index xs
-flat_mem xs image e = λ i a. flat_at xs image a e i
 
 -- the words under an image of their size
 under : (xs image : List ℕ) (s : State) → length image ≡ length xs → IsStateOf xs s →
@@ -79,21 +69,6 @@ report_is xs ys r said s h =
     let image = (flat_seen ys).0 in
     let stands = (flat_seen ys).1 in
     said.is image s stands.sees (under xs image s (stands.size ∙ said.reads.kept.size) h)
-
--- words that represent the state with no entries
-pub free_holds : (xs : List ℕ) (blocks : ℕ) → blocks ≤ 262144 → length xs ≡ 16 + 8 * blocks →
-    Represents (λ (a : ℕ). slice_index xs a) (length xs) [] (empty_state blocks) → HoldsState (flat_view xs)
-free_holds xs blocks few size free = record {
-  inside = omega (arith, size);
-  small = omega (arith, size);
-  under = λ image i. (
-    empty_state blocks,
-    rw (flat_mem xs image i.sees.fits, i.sees.fits) (record {
-      represents = free;
-      small = empty-small blocks few;
-    }),
-  );
-}
 
 -- the words of an empty heap
 pub spread_holds : (xs : List ℕ) (blocks : ℕ) → blocks ≤ 262144 → IsSpreadHeap xs blocks →

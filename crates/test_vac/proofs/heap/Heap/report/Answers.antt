@@ -1,8 +1,8 @@
 use Rattle.std.proofs.Common.{subst, sym, ◌∙◌}
 use Rattle.vac_records.proofs.AfterReads.{held_on}
-use Rattle.vac_tasks.specs.PlainState.{IsStateOf}
-use Rattle.vac_tasks.proofs.Heaps.{report_is, words_stay}
-use Rattle.vac_tasks.proofs.heap.Heap.report.Goals as goal
+use Rattle.test_vac.specs.PlainState.{IsStateOf}
+use Rattle.test_vac.proofs.Heaps.{report_is, words_stay}
+use Rattle.test_vac.proofs.heap.Heap.report.Goals as goal
 
 pub invariant_of-self : goal.invariant_of-self
 invariant_of-self c = held_on _ _ c.in-Ok.ensures.answer.reads c.self.invariant

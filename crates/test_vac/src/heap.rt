@@ -7,20 +7,19 @@ ghost use Rattle.vac_model.specs.Ranges.{is_task};
 ghost use Rattle.vac_model.specs.Run.{run as runs};
 ghost use Rattle.vac_records.specs.InMemory.{HoldsState};
 ghost use Rattle.vac_tasks.specs.Reading as reading;
-ghost use Rattle.vac_tasks.specs.PlainState.{IsStateOf};
+ghost use Rattle.test_vac.specs.PlainState.{IsStateOf};
 
-use crate::reporting::report;
-use crate::tasks::{read_task, run_task};
 use std::alloc::{AllocError, Global};
 use std::marker::Model;
 use tx_alloc::{FreeList, spread_words};
 use tx_memory::Flat;
 use vac_model::limits::MOST_BLOCKS;
 use vac_model::{Reply, Report, Task};
+use vac_tasks::{read_task, report, run_task};
 
 /// Plain memory that holds a state. Contracts see its words.
 #[derive(Drop)]
-pub struct Heap {
+pub(crate) struct Heap {
     memory: Flat,
 }
 
@@ -38,7 +37,7 @@ impl Model for Heap {
 
 impl Heap {
     /// Returns the memory of the state without entries, with room for `blocks` of them.
-    pub fn new(alloc: Global, blocks: u32) -> Result<Heap, AllocError>
+    pub(crate) fn new(alloc: Global, blocks: u32) -> Result<Heap, AllocError>
         requires some { 1 ≤ blocks }
         requires most { blocks ≤ MOST_BLOCKS }
         ensures { IfOk result (λ heap. IsStateOf heap (empty_state blocks)) }
@@ -48,18 +47,9 @@ impl Heap {
         Ok(Heap { memory })
     }
 
-    /// Returns the memory with these words, which hold a state.
-    pub fn of_words(words: Vec<u64>) -> Heap
-        requires { HoldsState (flat_view words.items) }
-        ensures { result ≡ words.items }
-    {
-        let memory = Flat::new(words);
-        Heap { memory }
-    }
-
     /// Runs a task, and returns its reply. New entries take their blocks from the free list
     /// `start` on.
-    pub fn run(&mut self, task: &Task, start: FreeList) -> Reply
+    pub(crate) fn run(&mut self, task: &Task, start: FreeList) -> Reply
         requires { is_task task.now ≡ true }
         ensures state { (s : State) → IsStateOf self.old s
             → IsStateOf self.new (runs s task.now).0 }
@@ -70,7 +60,7 @@ impl Heap {
     }
 
     /// Returns the reply to a task that only reads.
-    pub fn read(&mut self, task: &Task) -> Reply
+    pub(crate) fn read(&mut self, task: &Task) -> Reply
         requires { reading.only_reads task.now ≡ true }
         ensures words { self.new ≡ self.old }
         ensures state { (s : State) → IsStateOf self.old s
@@ -82,7 +72,7 @@ impl Heap {
     }
 
     /// Returns the report of the state.
-    pub fn report(&mut self) -> Report
+    pub(crate) fn report(&mut self) -> Report
         ensures words { self.new ≡ self.old }
         ensures report { (s : State) → IsStateOf self.old s → report_of s ≡ result }
     {
@@ -91,7 +81,7 @@ impl Heap {
     }
 
     /// Returns the words, which hold the state.
-    pub fn words(self) -> Vec<u64>
+    pub(crate) fn words(self) -> Vec<u64>
         ensures words { result.items ≡ self }
         ensures state { HoldsState (flat_view result.items) }
     {

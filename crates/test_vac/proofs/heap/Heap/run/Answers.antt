@@ -1,8 +1,8 @@
 use Rattle.std.proofs.Common.{subst, sym}
-use Rattle.vac_tasks.proofs.Heaps.{held_task}
-use Rattle.vac_tasks.specs.PlainState.{IsStateOf}
-use Rattle.vac_tasks.proofs.Heaps.{holds_run, reply_run}
-use Rattle.vac_tasks.proofs.heap.Heap.run.Goals as goal
+use Rattle.test_vac.proofs.Heaps.{held_task}
+use Rattle.test_vac.specs.PlainState.{IsStateOf}
+use Rattle.test_vac.proofs.Heaps.{holds_run, reply_run}
+use Rattle.test_vac.proofs.heap.Heap.run.Goals as goal
 
 pub invariant_of-self : goal.invariant_of-self
 invariant_of-self c = held_task _ _ _ _ c.in-Ok.ensures.answer c.self.invariant
