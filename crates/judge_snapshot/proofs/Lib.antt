@@ -1,0 +1,17 @@
+pub mod Tests
+pub mod Growing
+pub mod Possible
+pub mod Claims
+pub mod Reduced
+pub mod Keeping
+pub mod Trimming
+pub mod Lifted
+pub mod TrimmedLaw
+pub mod Hierarchy
+pub mod Pairs
+pub mod TwoCalls
+pub mod Readers
+pub mod LongFork
+pub mod Separations
+pub mod Parts
+pub mod PartHistories

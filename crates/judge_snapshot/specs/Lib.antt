@@ -1,0 +1,10 @@
+pub mod WriteSets
+pub mod Snapshots
+pub mod Possible
+pub mod Laws
+pub mod Trimmed
+pub mod Hierarchy
+pub mod Registers
+pub mod Examples
+pub mod Separations
+pub mod Parts
