@@ -61,7 +61,7 @@ module _ (lawful : RecordLaw) (lk : ℕ → ℕ) (image : List ℕ) (last stripe
   it k n = client_of (core_at lk (opened image last stripes) es n) k
 
   -- the running attempt of client k with this number, which began at the place from
-  abbrev Ran : (k attempt from to : ℕ) → Type 0
+  abbrev pub Ran : (k attempt from to : ℕ) → Type 0
   Ran k attempt from to =
       Course lk (opened image last stripes) es to (core_at lk (opened image last stripes) es to) k attempt
       (it k to).attempt.rv from (it k to).attempt.wv (it k to).attempt.ticks (it k to).attempt.next_from
@@ -104,7 +104,7 @@ module _ (lawful : RecordLaw) (lk : ℕ → ℕ) (image : List ℕ) (last stripe
 
   module _ (k attempt from to : ℕ) (b : IsStepOf es k attempt from begin) where
     -- a step of the running attempt
-    step_ran : (action : Action) → IsStepOf es k attempt to action → is_begin_of k (acts k action) ≡ false →
+    pub step_ran : (action : Action) → IsStepOf es k attempt to action → is_begin_of k (acts k action) ≡ false →
         (it k to).attempt.phase ≡ running → Ran k attempt from to
     step_ran action s other run =
         let may = may_at lawful lk image last stripes es end leads to (acts k action) s.0 in
@@ -137,9 +137,10 @@ module _ (lawful : RecordLaw) (lk : ℕ → ℕ) (image : List ℕ) (last stripe
 
     taken : (l w : ℕ) → IsFree w → slice_index (core to).locks l ≢ w →
         (IsFree w → Probed lk start es to (core to) k attempt l w) → IsTakenByAnother lk start es k attempt to l
-    taken l w free ne f = let q = f free in (q.0, q.1, ⊎_elim (λ e. absurd (ne e)) (λ t. t) q.3)
+    taken l w free ne f = let q = f free in (q.0, q.1, ⊎_elim (λ e. absurd (ne e)) (λ t. t) q.2)
 
-    cause : {action : Action} {w : ℕ} {x : Conflict} → IsStepOf es k attempt to action → w ≡ found lk (core to) action →
+    pub cause : {action : Action} {w : ℕ} {x : Conflict} → IsStepOf es k attempt to action →
+        w ≡ found lk (core to) action →
         Shows lk (it k to) action w x → HasCause lk start es k attempt (it k to).attempt.rv from to x
     cause s e (probe_held l w odd other) =
         let may = may_at lawful lk image last stripes es end leads to (acts k (probe l)) s.0 in
@@ -184,7 +185,7 @@ module _ (lawful : RecordLaw) (lk : ℕ → ℕ) (image : List ℕ) (last stripe
 
       not_taken : (l : ℕ) → IsTakenByAnother lk start es k attempt to l → ⊥
       not_taken l q =
-          let first = begin_first k es attempt from q.0 (probe l) b q.1 in
+          let first = begin_first k es attempt from q.0 (probe l) b q.1.0 in
           not_another q.2.0 q.2.1 (lock l) q.2.2 (let z = q.2.3 in let y : from < q.2.1 = omega (arith, first, z) in y)
           q.2.4 q.2.5.0
 
@@ -239,7 +240,7 @@ module _ (lawful : RecordLaw) (lk : ℕ → ℕ) (image : List ℕ) (last stripe
 
         found_again : (l w : ℕ) → IsFree w → (IsFree w → Probed lk start es to (core to) k attempt l w) →
             slice_index (core to).locks l ≡ w
-        found_again l w free f = let q = f free in ⊎_elim (λ e. e) (λ t. absurd (not_taken l (q.0, q.1, t))) q.3
+        found_again l w free f = let q = f free in ⊎_elim (λ e. e) (λ t. absurd (not_taken l (q.0, q.1, t))) q.2
 
         its_clock : (it k to).attempt.wv ≡ 0 → ((core to).clock ≡ (it k to).attempt.rv) ×
             ((it k to).attempt.next_from ≡ (core to).clock)
@@ -287,7 +288,7 @@ module _ (lawful : RecordLaw) (lk : ℕ → ℕ) (image : List ℕ) (last stripe
         }
 
   -- the value of a client after its step
-  value_after : (k n : ℕ) (action : Action) → get_elem? es n ≡ some (acts k action) →
+  pub value_after : (k n : ℕ) (action : Action) → get_elem? es n ≡ some (acts k action) →
       it k (suc n) ≡ after (stamp_of (core n) k) lk action (found lk (core n) action) (it k n)
   value_after k n action e =
       let may = may_at lawful lk image last stripes es end leads n (acts k action) e in
@@ -295,6 +296,47 @@ module _ (lawful : RecordLaw) (lk : ℕ → ℕ) (image : List ℕ) (last stripe
       subst (λ (d : Core). client_of d k ≡ w) (sym (after_at lawful lk image last stripes es end leads n
       (acts k action) e))
       (get_at (set (core n).clients (k - 1) w) (k - 1) w (set_here (core n).clients (k - 1) (it k n) w may.0.1))
+
+  -- a running attempt that takes a step, which is no begin, has begun before
+  module _ (k attempt to : ℕ) (action : Action) (s : IsStepOf es k attempt to action)
+      (other : is_begin_of k (acts k action) ≡ false) where
+    begun_if : (client_of (core_at lk (opened image last stripes) es to) k).attempt.phase ≡ running →
+        (from : ℕ) × (from < to) × IsStepOf es k attempt from begin
+    begun_if run =
+        let may = may_at lawful lk image last stripes es end leads to (acts k action) s.0 in
+        let less = in_range es to (acts k action) s.0 in
+        let inside : to ≤ length es = omega (arith, less) in
+        let num : suc (k - 1) ≡ k = (let z = may.0.0 in omega (arith, z)) in
+        let next : begins k es (suc to) ≡ begins k es to + 0 =
+        subst (λ y. begins k es (suc to) ≡ begins k es to + cond y 1 0) other
+        (begins_next k es to (acts k action) s.0) in
+        let count : begins k es to ≡ (it k to).attempt.number =
+        subst (λ j. begins j es to ≡ (it k to).attempt.number) num
+        (number_at lawful lk image last stripes es end leads to inside (k - 1) (it k to) may.0.1 may.0.2) in
+        let same : (it k to).attempt.number ≡ attempt = (let e = s.1 in omega (arith, next, count, e)) in
+        let q = began_before lawful lk image last stripes es end leads to inside (k - 1) (it k to) may.0.1 run in (
+          (it k to).attempt.began_at,
+          q.1,
+          subst (λ m. IsStepOf es k m (it k to).attempt.began_at begin) same
+              (subst (λ j. IsStepOf es j (it k to).attempt.number (it k to).attempt.began_at begin) num q.0),
+        )
+
+  begun_of : (k attempt to : ℕ) {action : Action} {w : ℕ} {x : Conflict} → IsStepOf es k attempt to action →
+      Shows lk (it k to) action w x → (from : ℕ) × (from < to) × IsStepOf es k attempt from begin
+  begun_of k attempt to s (probe_held l w odd other) = begun_if k attempt to (probe l) s refl
+      (may_at lawful lk image last stripes es end leads to (acts k (probe l)) s.0).1.0.0
+  begun_of k attempt to s (probe_newer l w less) = begun_if k attempt to (probe l) s refl
+      (may_at lawful lk image last stripes es end leads to (acts k (probe l)) s.0).1.0.0
+  begun_of k attempt to s (validate_held l w odd other) = begun_if k attempt to (validate l) s refl
+      (may_at lawful lk image last stripes es end leads to (acts k (validate l)) s.0).1.0
+  begun_of k attempt to s (validate_newer l w less) = begun_if k attempt to (validate l) s refl
+      (may_at lawful lk image last stripes es end leads to (acts k (validate l)) s.0).1.0
+  begun_of k attempt to s (check_moved a w ne) = begun_if k attempt to (check a) s refl
+      (may_at lawful lk image last stripes es end leads to (acts k (check a)) s.0).1.0.0
+  begun_of k attempt to s (lock_lost l w ne) = begun_if k attempt to (lock l) s refl
+      (may_at lawful lk image last stripes es end leads to (acts k (lock l)) s.0).1.0.0
+  begun_of k attempt to s (tick_lost f tag writes w all ne) = begun_if k attempt to (tick f tag writes) s refl
+      (may_at lawful lk image last stripes es end leads to (acts k (tick f tag writes)) s.0).1.0.0
 
   module _ (k n : ℕ) (run : (client_of (core_at lk (opened image last stripes) es n) k).attempt.phase ≡ running) where
     abbrev v : Client
@@ -383,6 +425,8 @@ module _ (lawful : RecordLaw) (lk : ℕ → ℕ) (image : List ℕ) (last stripe
 -- every list of allowed events is progressive
 pub every_list_is_progressive : (lawful : RecordLaw) → EveryListIsProgressive lawful
 every_list_is_progressive lawful image last stripes es end leads = record {
+  begun = λ k attempt to action x s.
+      begun_of lawful (stripe_of stripes) image last stripes es end leads k attempt to s.0 s.1;
   causes = λ k attempt from to action x b s.
       cause lawful (stripe_of stripes) image last stripes es end leads k attempt from to b s.0 refl s.1;
   aborts = λ k n action here run e.

@@ -1,15 +1,18 @@
 -- Facts that a running attempt keeps of the steps of others since its begin.
 use Rattle.std.proofs.Common.{◌≡◌, ◌≢◌, ℕ, suc, ◌+◌, ◌<◌, ◌≤◌, ◌⊎◌, inl, inr, ⊎_elim, true}
 use Rattle.std.proofs.Common.{List, slice_index, sym, ◌∙◌, subst, arith}
+use mathlib.Core.Option.{some}
 use mathlib.Core.Logic.{dite}
 use native.Mathlib.Decide.{ℕ_discrete}
+use lib.ListN.{get_elem?}
 use Rattle.stm_core.specs.LockWord.{free_word}
 use Rattle.stm_core.specs.Client.{Client, Step, probed, fetched, version_of, IsFree, writes_to}
-use Rattle.stm_core.specs.Event.{probe}
-use Rattle.stm_core.specs.Core.{Core, Event}
+use Rattle.stm_core.specs.Event.{Action, probe}
+use Rattle.stm_core.specs.Core.{Core, Event, acts}
 use Rattle.stm_core.specs.Version.{At}
-use Rattle.stm_core.specs.Listed.{IsStepOf}
-use Rattle.stm_core.specs.Causes.{IsDoneByAnother, HoldsAt, TakesAt, ReleasesAbove, WinsTickAt}
+use Rattle.stm_core.specs.Causes.{AtLeast, IsDoneByAnother, HoldsAt, TakesAt, ReleasesAbove, WinsTickAt, LosesTickAt}
+use Rattle.stm_core.specs.Causes.{IsLastProbe}
+use Rattle.stm_core.proofs.Amounts.{at_least_so}
 
 -- what another client has done before a place it has done before the next one
 pub widen : {k from to : ℕ} {Does : (other place : ℕ) → Type 0} → IsDoneByAnother k from to Does →
@@ -25,11 +28,29 @@ module _ (lk : ℕ → ℕ) (start : Core) (es : List Event) where
   pub longer : (j l from to : ℕ) → Since j l from to → Since j l from (suc to)
   longer j l from to s = ⊎_elim (λ h. inl h) (λ q. inr (q.0, q.1, (let z = q.2 in omega (arith, z)), q.3)) s
 
-  -- the attempt has probed a lock and found this word, and the word is there still or another client has taken the lock
+  -- the attempt's last probe of a lock has found this word, and the word is there still or another client has taken
+  -- the lock
   abbrev pub Probed : (n : ℕ) → Core → (k number l w : ℕ) → Type 0
   Probed n c k number l w =
-      (p : ℕ) × IsStepOf es k number p (probe l) × (p < n)
+      (p : ℕ) × IsLastProbe lk start es k number n l p
       × ((slice_index c.locks l ≡ w) ⊎ IsDoneByAnother k p n (TakesAt lk start es l))
+
+  -- no probe of a lock since a place, with one event more
+  pub quiet_on : (k l p n : ℕ) → get_elem? es n ≢ some (acts k (probe l)) →
+      ((m : ℕ) → p < m → m < n → get_elem? es m ≢ some (acts k (probe l))) →
+      (m : ℕ) → p < m → m < suc n → get_elem? es m ≢ some (acts k (probe l))
+  quiet_on k l p n here before m low high = dite (ℕ_discrete m n)
+      (λ e. subst (λ z. get_elem? es z ≢ some (acts k (probe l))) (sym e) here)
+      (λ ne. before m low (let z : m < n = omega (arith, high, ne) in z))
+
+  -- the ticks that an attempt has lost before a place
+  abbrev pub Lost : (n k number ticks : ℕ) → Type 0
+  Lost n k number ticks = AtLeast ticks (λ m. LosesTickAt lk start es k number m × (m < n))
+
+  pub lost_on : (n k number ticks : ℕ) → Lost n k number ticks → Lost (suc n) k number ticks
+  lost_on n k number ticks q = at_least_so ticks (λ m. LosesTickAt lk start es k number m × (m < n))
+      (λ m. LosesTickAt lk start es k number m × (m < suc n))
+      (λ m p. (p.0, (let z = p.1 in omega (arith, z)))) q
 
   abbrev pub Seen : (n : ℕ) → Core → (k number : ℕ) → Step → Type 0
   Seen n c k number (probed l w) = IsFree w → Probed n c k number l w
@@ -42,6 +63,7 @@ module _ (lk : ℕ → ℕ) (start : Core) (es : List Event) where
         → IsDoneByAnother k began n (ReleasesAbove lk start es l rv)
     pub seen : Seen n c k number last
     pub paced : wv ≡ 0 → (rv + ticks ≤ next) × (next ≤ c.clock)
+    pub lost : wv ≡ 0 → Lost n k number ticks
     pub won : wv ≡ 0 → (u : ℕ) → rv ≤ u → u < c.clock → IsDoneByAnother k began n (WinsTickAt lk start es u)
     pub held : (j l : ℕ) (w : Client) → suc j ≢ k → At c.clients j w → writes_to w.attempt.held l ≡ true
         → Since (suc j) l began n
@@ -67,7 +89,8 @@ module _ (lk : ℕ → ℕ) (start : Core) (es : List Event) where
         ⊎ ((suc j ≡ k) × TakesAt lk start es l k n)
 
   -- another client's event
-  module _ (n k j : ℕ) (c d : Core) (m : Moves n j c d) (ne : j ≢ k) where
+  module _ (n k j : ℕ) (c d : Core) (m : Moves n j c d) (ne : j ≢ k)
+      (far : (e : Action) → get_elem? es n ≡ some (acts k e) → ⊥) where
     abbrev Mine : (p l : ℕ) → Type 0
     Mine p l = IsDoneByAnother k p (suc n) (TakesAt lk start es l)
 
@@ -83,9 +106,8 @@ module _ (lk : ℕ → ℕ) (start : Core) (es : List Event) where
     probed_on : (number l w : ℕ) → IsFree w → Probed n c k number l w → Probed (suc n) d k number l w
     probed_on number l w free q = (
       q.0,
-      q.1,
-      (let z = q.2 in omega (arith, z)),
-      ⊎_elim (λ e. word_on q.0 l w q.2 free e) (λ t. inr (widen t)) q.3,
+      (q.1.0, (let z = q.1.1 in omega (arith, z)), quiet_on k l q.0 n (far (probe l)) q.1.2),
+      ⊎_elim (λ e. word_on q.0 l w q.1.1 free e) (λ t. inr (widen t)) q.2,
     )
 
     seen_on : (number : ℕ) (s : Step) → Seen n c k number s → Seen (suc n) d k number s
@@ -99,6 +121,7 @@ module _ (lk : ℕ → ℕ) (start : Core) (es : List Event) where
       newer = newer';
       seen = seen_on number last f.seen;
       paced = λ z. let p = f.paced z in (p.0, clock_on p.1);
+      lost = λ z. lost_on n k number ticks (f.lost z);
       won = won';
       held = λ i l w other at h. ⊎_elim (λ q. longer (suc i) l began n (f.held i l q.0 other q.1 q.2))
           (λ q. inr (
@@ -139,11 +162,13 @@ module _ (lk : ℕ → ℕ) (start : Core) (es : List Event) where
       → ((l : ℕ) → version_of (slice_index d.locks l) ≡ version_of (slice_index c.locks l))
       → (wv' ticks' next' : ℕ) (last' : Step) → Seen (suc n) d k number last'
       → (wv' ≡ 0 → (wv ≡ 0) × (d.clock ≡ c.clock) × (rv + ticks' ≤ next') × (next' ≤ c.clock))
+      → (wv' ≡ 0 → Lost (suc n) k number ticks')
       → Course (suc n) d k number rv began wv' ticks' next' last'
-  on_own n k c d m number rv began wv ticks next last f same wv' ticks' next' last' seen' still = record {
+  on_own n k c d m number rv began wv ticks next last f same wv' ticks' next' last' seen' still lost' = record {
     newer = λ l h. widen (f.newer l (subst (λ w. rv < w) (same l) h));
     seen = seen';
     paced = λ z. let p = still z in (p.2, (let e = p.1 in let h = p.3 in omega (arith, e, h)));
+    lost = lost';
     won = λ z u low high. let p = still z in
         widen (f.won p.0 u low (let e = p.1 in let q : u < c.clock = omega (arith, e, high) in q));
     held = λ i l w other at h. ⊎_elim (λ q. longer (suc i) l began n (f.held i l q.0 other q.1 q.2))

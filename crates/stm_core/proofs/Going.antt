@@ -1,8 +1,9 @@
 -- Every event keeps what a running attempt shows of the steps of others.
 use Rattle.std.proofs.Common.{◌≡◌, ◌≢◌, ℕ, zero, suc, ◌+◌, ◌-◌, ◌<◌, ◌≤◌, inl, inr, ⊎_elim, false}
-use Rattle.std.proofs.Common.{cond, eqb, List, length, set, slice_index, slice_set, refl, sym, ap, ◌∙◌, subst, arith}
+use Rattle.std.proofs.Common.{cond, eqb, List, [], length, set, slice_index, slice_set, refl, sym, ap, ◌∙◌, subst}
+use Rattle.std.proofs.Common.{arith}
 use Rattle.std.proofs.lemmas.Bool.Decides.{nat_tests}
-use mathlib.Core.Option.{some}
+use mathlib.Core.Option.{some, some-injective}
 use lib.ListN.{get_elem?}
 use Rattle.stm_core.specs.Client.{Client, Phase, idle, running, ending, committed, finished, Step, probed, fetched}
 use Rattle.stm_core.specs.Client.{checked}
@@ -18,11 +19,13 @@ use Rattle.stm_core.specs.Core.{Core, Event, acts, splits, gathers, renews, stam
 use Rattle.stm_core.specs.Core.{opened}
 use Rattle.stm_core.specs.Version.{At}
 use Rattle.stm_core.specs.Listed.{begins, core_at}
-use Rattle.stm_core.proofs.Lists.{at_set, at_snoc, set_here, who_set, only_one}
+use Rattle.stm_core.specs.Causes.{actor, LosesTickAt}
+use Rattle.stm_core.proofs.Amounts.{at_least_more}
+use Rattle.stm_core.proofs.Lists.{at_set, at_snoc, nothing_in, set_here, who_set, only_one}
 use Rattle.stm_core.proofs.Renewing.{at_below}
 use Rattle.stm_core.proofs.Steps.{by_case}
-use Rattle.stm_core.proofs.Places.{rule_at, count_at, number_at, began_before, may_at, after_at, holder_is}
-use Rattle.stm_core.proofs.Courses.{Course, Of, Seen, Probed, Moves, on_other, on_own, widen}
+use Rattle.stm_core.proofs.Places.{rule_at, count_at, number_at, began_before, may_at, after_at, begins_next, holder_is}
+use Rattle.stm_core.proofs.Courses.{Course, Of, Seen, Probed, Moves, Lost, on_other, on_own, lost_on, quiet_on, widen}
 use Rattle.stm_core.proofs.Moving.{word_set, act_moves, split_moves, gather_moves}
 
 -- a phase that is not running
@@ -40,6 +43,9 @@ committed_rests r = absurd (let z : committed ≡ running = r in cc)
 
 finished_rests : {X : Type 0} → finished ≡ running → X
 finished_rests r = absurd (let z : finished ≡ running = r in cc)
+
+no_probe : {X : Type 0} (a l k : ℕ) → acts k (fetch a) ≡ acts k (probe l) → X
+no_probe a l k e = absurd (let z : acts k (fetch a) ≡ acts k (probe l) = e in cc)
 
 module _ (lawful : RecordLaw) (lk : ℕ → ℕ) (image : List ℕ) (last stripes : ℕ) (es : List Event) (end : Core)
     (leads : Leads lawful lk (opened image last stripes) es end) where
@@ -61,17 +67,23 @@ module _ (lawful : RecordLaw) (lk : ℕ → ℕ) (image : List ℕ) (last stripe
     now : n < suc n
     now = omega arith
 
+    -- the client of the event is the one that takes the step
+    who : (x : Event) → get_elem? es n ≡ some x → (j : ℕ) (e : Action) → get_elem? es n ≡ some (acts j e) → j ≡ actor x
+    who x here j e at = ap actor (some-injective (acts j e) x (sym at ∙ here))
+
     -- an event of client k
     module _ (k : ℕ) (some' : 0 < k) (d : Core) (m : Moves lk (opened image last stripes) es n k
         (core_at lk (opened image last stripes) es n) d) where
       num : suc (k - 1) ≡ k
       num = omega arith
 
-      others : (j : ℕ) (o : Client) → At (core_at lk (opened image last stripes) es n).clients j o → j ≢ (k - 1) →
+      others : ((j : ℕ) (e : Action) → get_elem? es n ≡ some (acts j e) → j ≡ k) → (j : ℕ) (o : Client) →
+          At (core_at lk (opened image last stripes) es n).clients j o → j ≢ (k - 1) →
           o.attempt.phase ≡ running → Of lk (opened image last stripes) es (suc n) d (suc j) o
-      others j o a ne run =
+      others is j o a ne run =
           on_other lk start es n (suc j) k (core n) d m (λ e. ne (let z : j ≡ k - 1 = omega (arith, e) in z))
-          o.attempt.number o.attempt.rv o.attempt.began_at o.attempt.wv o.attempt.ticks o.attempt.next_from
+          (λ e at. ne (let y = is (suc j) e at in let z : j ≡ k - 1 = omega (arith, y) in z)) o.attempt.number
+          o.attempt.rv o.attempt.began_at o.attempt.wv o.attempt.ticks o.attempt.next_from
           o.attempt.last (began_before lawful lk image last stripes es end leads n inside j o a run).1 (all j o a run)
 
       mine : (v : Client) → At (core_at lk (opened image last stripes) es n).clients (k - 1) v →
@@ -94,6 +106,7 @@ module _ (lawful : RecordLaw) (lk : ℕ → ℕ) (image : List ℕ) (last stripe
           on_own lk start es n k (core n) d m v.attempt.number v.attempt.rv v.attempt.began_at v.attempt.wv
           v.attempt.ticks v.attempt.next_from v.attempt.last g same v.attempt.wv v.attempt.ticks v.attempt.next_from s
           seen (λ z. let p = g.paced z in (z, clock, p.0, p.1))
+          (λ z. lost_on lk start es n k v.attempt.number v.attempt.ticks (g.lost z))
 
     -- a step of client k
     module _ (k : ℕ) where
@@ -159,6 +172,7 @@ module _ (lawful : RecordLaw) (lk : ℕ → ℕ) (image : List ℕ) (last stripe
               (let q : (core n).clock + 0 ≤ (core n).clock = omega arith in q),
               (let q : (core n).clock ≤ (core n).clock = omega arith in q),
             );
+            lost = λ z. ([], refl, tt, λ m i. absurd (nothing_in m i));
             won = λ z u low high. absurd (omega (arith, low, high));
             held = λ j l w ne a h. inl (⊎_elim
                 (λ p. absurd (ne (let q = p.0 in let r = may.0.0 in let z : suc j ≡ k = omega (arith, q, r) in z)))
@@ -172,11 +186,14 @@ module _ (lawful : RecordLaw) (lk : ℕ → ℕ) (image : List ℕ) (last stripe
           (λ free. (
             n,
             (
-              here,
-              number_next (probe a) here
-                  (may_at lawful lk image last stripes es end leads n (acts k (probe a)) here).0.2,
+              (
+                here,
+                number_next (probe a) here
+                    (may_at lawful lk image last stripes es end leads n (acts k (probe a)) here).0.2,
+              ),
+              now,
+              λ m low high. absurd (omega (arith, low, high)),
             ),
-            now,
             inl refl,
           ))
 
@@ -192,9 +209,15 @@ module _ (lawful : RecordLaw) (lk : ℕ → ℕ) (image : List ℕ) (last stripe
           (fetched a (word_before it.attempt.last) (slice_index (core n).cells a))
           (λ free. let q = was (subst IsFree word free) in (
             q.0,
-            q.1,
-            (let z = q.2 in omega (arith, z)),
-            ⊎_elim (λ e. inl (e ∙ sym word)) (λ t. inr (widen t)) q.3,
+            (
+              q.1.0,
+              (let z = q.1.1 in omega (arith, z)),
+              quiet_on lk start es k (lk a) q.0 n (λ e.
+                  let z : acts k (fetch a) ≡ acts k (probe (lk a)) =
+                  some-injective (acts k (fetch a)) (acts k (probe (lk a))) (sym here ∙ e) in
+                  no_probe a (lk a) k z) q.1.2,
+            ),
+            ⊎_elim (λ e. inl (e ∙ sym word)) (λ t. inr (widen t)) q.2,
           ))
 
       goes_check : (a : ℕ) → Goes (check a)
@@ -235,6 +258,34 @@ module _ (lawful : RecordLaw) (lk : ℕ → ℕ) (image : List ℕ) (last stripe
               (λ p. ap version_of (p.1 ∙ ap (λ y. slice_index (core n).locks y) p.0))
               (λ p. ap version_of p) (word_set (core n).locks a l w may.1.1))
 
+      -- one lost tick more
+      loses_one : (from : ℕ) (tag : List ℕ) (writes : List (ℕ × ℕ)) →
+          get_elem? es n ≡ some (acts k (tick from tag writes)) →
+          (core_at lk (opened image last stripes) es n).clock ≢ from →
+          Lost lk (opened image last stripes) es n k it.attempt.number it.attempt.ticks →
+          Lost lk (opened image last stripes) es (suc n) k it.attempt.number (it.attempt.ticks + 1)
+      loses_one from tag writes here ne q =
+          let may = may_at lawful lk image last stripes es end leads n (acts k (tick from tag writes)) here in
+          let number : suc (k - 1) ≡ k = (let z = may.0.0 in omega (arith, z)) in
+          let before : begins k es n ≡ it.attempt.number =
+          subst (λ j. begins j es n ≡ it.attempt.number) number
+          (number_at lawful lk image last stripes es end leads n inside (k - 1) it may.0.1 may.0.2) in
+          let next : begins k es (suc n) ≡ begins k es n + 0 =
+          begins_next k es n (acts k (tick from tag writes)) here in
+          at_least_more it.attempt.ticks n (λ m. LosesTickAt lk start es k it.attempt.number m × (m < n))
+          (λ m. LosesTickAt lk start es k it.attempt.number m × (m < suc n))
+          (λ m p. (p.0, (let z = p.1 in omega (arith, z)))) (λ p. (let z = p.1 in omega (arith, z)))
+          (
+            (
+              from,
+              tag,
+              writes,
+              (here, (let z : begins k es (suc n) ≡ it.attempt.number = omega (arith, before, next) in z)),
+              ne,
+            ),
+            now,
+          ) q
+
       goes_tick : (from : ℕ) (tag : List ℕ) (writes : List (ℕ × ℕ)) → Goes (tick from tag writes)
       goes_tick from tag writes here =
           let may = may_at lawful lk image last stripes es end leads n (acts k (tick from tag writes)) here in
@@ -256,7 +307,7 @@ module _ (lawful : RecordLaw) (lk : ℕ → ℕ) (image : List ℕ) (last stripe
           (λ z run. on_own lk start es n k (core n) (next (tick from tag writes)) (moves (tick from tag writes) here)
           it.attempt.number it.attempt.rv it.attempt.began_at it.attempt.wv it.attempt.ticks it.attempt.next_from
           it.attempt.last g (λ l. refl) (from + 1) (it.attempt.ticks + 1) clock (ticked from clock) tt
-          (λ y. absurd (omega (arith, y)))))
+          (λ y. absurd (omega (arith, y))) (λ y. absurd (omega (arith, y)))))
           (λ e run. on_own lk start es n k (core n) (next (tick from tag writes)) (moves (tick from tag writes) here)
           it.attempt.number it.attempt.rv it.attempt.began_at it.attempt.wv it.attempt.ticks it.attempt.next_from
           it.attempt.last g (λ l. refl) it.attempt.wv (it.attempt.ticks + 1) clock (ticked from clock) tt
@@ -269,7 +320,8 @@ module _ (lawful : RecordLaw) (lk : ℕ → ℕ) (image : List ℕ) (last stripe
             ap (λ b. cond b (from + 1) clock) e,
             (let q : it.attempt.rv + (it.attempt.ticks + 1) ≤ clock = omega (arith, low, high, is, ne) in q),
             (let q : clock ≤ clock = omega arith in q),
-          )))
+          ))
+          (λ y. loses_one from tag writes here (let ne : clock ≢ from = grind (arith, nat_tests) in ne) (g.lost y)))
 
       goes_validate : (a : ℕ) → Goes (validate a)
       goes_validate a here =
@@ -315,7 +367,7 @@ module _ (lawful : RecordLaw) (lk : ℕ → ℕ) (image : List ℕ) (last stripe
         (λ j o. o.attempt.phase ≡ running → Of lk (opened image last stripes) es (suc n) (next k e) (suc j) o)
         (λ run. subst (λ j. Of lk (opened image last stripes) es (suc n) (next k e) j (then k e))
         (sym (num k may.0.0 (next k e) (moves k e here))) (goes k e here run))
-        (λ j o a ne run. others k may.0.0 (next k e) (moves k e here) j o a ne run)
+        (λ j o a ne run. others k may.0.0 (next k e) (moves k e here) (who (acts k e) here) j o a ne run)
     goes_on (splits k) here =
         let may = may_at lawful lk image last stripes es end leads n (splits k) here in
         let rule = rule_at lawful lk image last stripes es end leads n inside in
@@ -327,7 +379,7 @@ module _ (lawful : RecordLaw) (lk : ℕ → ℕ) (image : List ℕ) (last stripe
         (λ j o. o.attempt.phase ≡ running → Of lk (opened image last stripes) es (suc n) d (suc j) o)
         (λ r. subst (λ j. Of lk (opened image last stripes) es (suc n) d j (giving v)) (sym (num k may.0.0 d m))
         (calm k may.0.0 d m v may.0.1 r (λ l. refl) refl Rattle.stm_core.specs.Client.nothing tt))
-        (λ j o b ne r. others k may.0.0 d m j o b ne r) j o p run)
+        (λ j o b ne r. others k may.0.0 d m (who (splits k) here) j o b ne r) j o p run)
         (λ e. idle_rests (ap (λ (y : Client). y.attempt.phase) e ∙ run))
         (at_snoc (set (core n).clients (k - 1) (giving v)) (fresh v) o j a)
     goes_on (gathers k i) here =
@@ -344,7 +396,7 @@ module _ (lawful : RecordLaw) (lk : ℕ → ℕ) (image : List ℕ) (last stripe
         (λ j o. o.attempt.phase ≡ running → Of lk (opened image last stripes) es (suc n) d (suc j) o)
         (λ r. subst (λ j. Of lk (opened image last stripes) es (suc n) d j w) (sym (num k may.0.0 d m))
         (calm k may.0.0 d m v may.0.1 r (λ l. refl) refl Rattle.stm_core.specs.Client.nothing tt))
-        (λ j o b ne r. others k may.0.0 d m j o b ne r) j o a)
+        (λ j o b ne r. others k may.0.0 d m (who (gathers k i) here) j o b ne r) j o a)
     goes_on (renews k u) here =
         let may = may_at lawful lk image last stripes es end leads n (renews k u) here in
         let rule = rule_at lawful lk image last stripes es end leads n inside in

@@ -31,9 +31,12 @@ pub mod Playing
 pub mod Conditions
 pub mod Examples
 pub mod Places
+pub mod Amounts
 pub mod Courses
 mod Moving
 mod Going
 mod Aborting
 mod Causing
+mod Touching
+mod Spending
 mod ConflictExamples

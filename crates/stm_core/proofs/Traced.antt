@@ -29,11 +29,11 @@ last_at [] a b (suc j) e = absurd (some-ne-none b (sym e))
 last_at (x ∷ l) a b zero e = inl e
 last_at (x ∷ l) a b (suc j) e = ⊎_elim (λ p. inl p) (λ p. inr (ap suc p.0, p.1)) (last_at l a b j e)
 
-at_end : {A : Type 0} (l : List A) (a : A) → get_elem? (l ++ a ∷ []) (length l) ≡ some a
+pub at_end : {A : Type 0} (l : List A) (a : A) → get_elem? (l ++ a ∷ []) (length l) ≡ some a
 at_end [] a = refl
 at_end (x ∷ l) a = at_end l a
 
-begins_before : (k : ℕ) (es : List Event) (e : Event) (n : ℕ) → n ≤ length es →
+pub begins_before : (k : ℕ) (es : List Event) (e : Event) (n : ℕ) → n ≤ length es →
     begins k (es ++ e ∷ []) n ≡ begins k es n
 begins_before k es e zero l = refl
 begins_before k [] e (suc n) l = absurd (omega arith)
@@ -44,7 +44,7 @@ pub begins_end : (k : ℕ) (es : List Event) (e : Event) → begins k (es ++ e �
 begins_end k [] e = (let z : cond (is_begin_of k e) 1 0 + 0 ≡ 0 + cond (is_begin_of k e) 1 0 = omega arith in z)
 begins_end k (x ∷ es) e = (let h = begins_end k es e in omega (arith, h))
 
-begins_more : (k : ℕ) (es : List Event) (n m : ℕ) → n ≤ m → begins k es n ≤ begins k es m
+pub begins_more : (k : ℕ) (es : List Event) (n m : ℕ) → n ≤ m → begins k es n ≤ begins k es m
 begins_more k es zero m l = omega arith
 begins_more k [] (suc n) m l = omega arith
 begins_more k (x ∷ es) (suc n) zero l = absurd (omega arith)
@@ -68,7 +68,7 @@ begin_first k es a n m e b s = by_le (Rattle.std.proofs.Common.leb n m) refl
         begins_more k es (suc m) n l in let p = b.1 in let q = s.1 in omega (arith, c, d, p, q))
 
 module _ (lk : ℕ → ℕ) where
-  core_before : (c : Core) (es : List Event) (e : Event) (n : ℕ) → n ≤ length es →
+  pub core_before : (c : Core) (es : List Event) (e : Event) (n : ℕ) → n ≤ length es →
       core_at lk c (es ++ e ∷ []) n ≡ core_at lk c es n
   core_before c es e zero l = refl
   core_before c [] e (suc n) l = absurd (omega arith)

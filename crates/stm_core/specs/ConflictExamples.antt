@@ -1,15 +1,16 @@
 -- Worked lists of events. The last event of each is a step of client 1 that shows a conflict, and
 -- an event of client 2 causes the conflict. Kinds, places and causes were worked out by hand.
 use Rattle.std.specs.Prelude.{◌≡◌, ℕ, true, zero, suc, ◌+◌, ◌-◌, List, [], ◌∷◌, ◌++◌, length}
-use Rattle.stm_core.specs.Event.{Action, begin, probe, fetch, check, lock, tick, validate, put, release}
+use Rattle.stm_core.specs.Event.{Action, begin, probe, fetch, check, lock, tick, validate, put, release, give_back}
 use Rattle.stm_core.specs.Guards.{stripe_of}
-use Rattle.stm_core.specs.Client.{running}
-use Rattle.stm_core.specs.Core.{Core, Event, acts, splits, is_out, opened}
+use Rattle.stm_core.specs.Client.{running, committed}
+use Rattle.stm_core.specs.Core.{Core, Event, acts, splits, is_out, may_play, opened}
 use Rattle.stm_core.specs.Examples.{zero_words, IsAllowedList}
 use Rattle.stm_core.specs.Listed.{IsStepOf, core_at}
+use Rattle.stm_core.specs.Theorem.{free_law, Reaches}
 use Rattle.stm_core.specs.Conflicts.{Conflict, held, newer, moved, lost_lock, lost_tick}
-use Rattle.stm_core.specs.Causes.{HoldsAt, TakesAt, ReleasesAbove, WinsTickAt, IsUndisturbed}
-use Rattle.stm_core.specs.Progress.{ShowsAt, client_at}
+use Rattle.stm_core.specs.Causes.{AtLeast, HoldsAt, TakesAt, ReleasesAbove, WinsTickAt, LosesTickAt, IsLastProbe, IsUndisturbed, IsUntouched, IsSpentAt, HoldsUnticked}
+use Rattle.stm_core.specs.Progress.{ShowsAt, client_at, MeetsFreshConflict}
 
 -- the core on which the worked lists begin: 32 words, all of them 0, and 32 lock words
 abbrev pub start : Core
@@ -101,6 +102,46 @@ undisturbed =
     ∷ acts 1 begin ∷ acts 1 (probe 8) ∷ acts 1 (fetch 8) ∷ acts 1 (check 8)
     ∷ acts 1 (probe 9) ∷ acts 1 (lock 9) ∷ []
 
+-- client 2 takes the lock after client 1's first probe and gives the lock back, and takes it again
+-- between client 1's second probe and its check
+abbrev pub probes_twice : List Event
+probes_twice =
+    splits 1
+    ∷ acts 1 begin ∷ acts 1 (probe 8)
+    ∷ acts 2 begin ∷ acts 2 (probe 8) ∷ acts 2 (lock 8) ∷ acts 2 (give_back 8)
+    ∷ acts 1 (probe 8) ∷ acts 1 (fetch 8)
+    ∷ acts 2 begin ∷ acts 2 (probe 8) ∷ acts 2 (lock 8)
+    ∷ acts 1 (check 8) ∷ []
+
+-- client 1 commits after it has validated its read. Client 2 has committed meanwhile, but to a word
+-- of another stripe
+abbrev pub passes_by : List Event
+passes_by = has_to_validate ++ acts 1 (validate 8) ∷ []
+
+-- two attempts of client 1 find the lock held, which client 2 has taken anew each time
+abbrev pub meets_twice : List Event
+meets_twice =
+    splits 1
+    ∷ acts 1 begin
+    ∷ acts 2 begin ∷ acts 2 (probe 8) ∷ acts 2 (lock 8)
+    ∷ acts 1 (probe 8)
+    ∷ acts 2 (give_back 8)
+    ∷ acts 1 begin
+    ∷ acts 2 begin ∷ acts 2 (probe 8) ∷ acts 2 (lock 8)
+    ∷ acts 1 (probe 8) ∷ []
+
+-- a core whose last version is 1
+abbrev pub brief : Core
+brief = opened zero_words 1 32
+
+-- a client that is alone commits, which takes the clock to its last version. Then its second
+-- attempt takes a lock
+abbrev pub spends_clock : List Event
+spends_clock =
+    acts 1 begin ∷ acts 1 (probe 8) ∷ acts 1 (lock 8) ∷ acts 1 (tick 0 (1 ∷ []) ((8, 5) ∷ []))
+    ∷ acts 1 (put 8 5) ∷ acts 1 (release 8)
+    ∷ acts 1 begin ∷ acts 1 (probe 9) ∷ acts 1 (lock 9) ∷ []
+
 -- each list ends in its conflict, and the cause stands at its place
 pub record WorkedConflicts : Type 0 where
   pub held_is_met : EndsIn meets_held (probe 8) (held 8)
@@ -124,3 +165,30 @@ pub record WorkedConflicts : Type 0 where
   pub none_disturbs : IsUndisturbed (stripe_of 32) start undisturbed 1 7 13
   pub both_out : is_out (core_at (stripe_of 32) start undisturbed 13) 2 ≡ true
   pub still_runs : (client_at (stripe_of 32) start undisturbed 1 13).attempt.phase ≡ running
+  -- the lock that was taken after the first probe is no cause, since a probe came after
+  pub moved_since_last_probe : EndsIn probes_twice (check 8) (moved 8)
+  pub taken_before : TakesAt (stripe_of 32) start probes_twice 8 2 5
+  pub last_probe : IsLastProbe (stripe_of 32) start probes_twice 1 1 12 8 7
+  pub not_last : IsLastProbe (stripe_of 32) start probes_twice 1 1 12 8 2 → ⊥
+  pub taken_again : TakesAt (stripe_of 32) start probes_twice 8 2 11
+  -- an attempt loses one tick and commits, though another client commits meanwhile
+  pub passing_is_allowed : IsAllowedList passes_by
+  pub passed_by : IsUntouched (stripe_of 32) start passes_by 1 1 1 15
+  pub one_tick_lost : LosesTickAt (stripe_of 32) start passes_by 1 1 13
+  pub commits : (client_at (stripe_of 32) start passes_by 1 16).attempt.phase ≡ committed
+  -- two attempts with conflicts, and two locks taken by another client
+  pub meeting_is_allowed : IsAllowedList meets_twice
+  pub two_attempts : AtLeast 2 (MeetsFreshConflict (stripe_of 32) start meets_twice 1 0 11)
+  pub first_taken : TakesAt (stripe_of 32) start meets_twice 8 2 4
+  pub second_taken : TakesAt (stripe_of 32) start meets_twice 8 2 10
+  -- an undisturbed attempt that holds its lock may not tick, since the clock is spent. It may give
+  -- its lock back
+  pub spending_is_allowed : (c : Core) × Reaches free_law zero_words 1 32 spends_clock c
+  pub alone_since : IsUndisturbed (stripe_of 32) brief spends_clock 1 6 9
+  pub is_spent : IsSpentAt (stripe_of 32) brief spends_clock 9
+  pub holds_its_lock : HoldsUnticked (client_at (stripe_of 32) brief spends_clock 1 9).attempt
+  pub no_tick : (u : ℕ) (tag : List ℕ) (writes : List (ℕ × ℕ))
+      → may_play (stripe_of 32) (acts 1 (tick u tag writes))
+      (core_at (stripe_of 32) brief spends_clock 9) ≡ true → ⊥
+  pub gives_back : may_play (stripe_of 32) (acts 1 (give_back 9))
+      (core_at (stripe_of 32) brief spends_clock 9) ≡ true

@@ -1,6 +1,6 @@
 -- Progressiveness: every conflict is caused by another client, and an attempt that no other client
 -- disturbs meets none.
-use Rattle.std.specs.Prelude.{◌≡◌, ℕ, suc, ◌≤◌, ◌<◌, ◌⊎◌, List, length}
+use Rattle.std.specs.Prelude.{◌≡◌, ◌≢◌, ℕ, suc, ◌≤◌, ◌<◌, ◌⊎◌, List, length}
 use mathlib.Core.Option.{some}
 use lib.ListN.{get_elem?}
 use Rattle.stm_core.specs.Client.{Client, RecordLaw, running, ending}
@@ -11,7 +11,7 @@ use Rattle.stm_core.specs.Invariant.{GoesOnAlone}
 use Rattle.stm_core.specs.Listed.{begins, IsStepOf, core_at}
 use Rattle.stm_core.specs.Theorem.{Reaches}
 use Rattle.stm_core.specs.Conflicts.{Conflict, Shows}
-use Rattle.stm_core.specs.Causes.{HasCause, IsUndisturbed}
+use Rattle.stm_core.specs.Causes.{HasCause, IsUndisturbed, IsUntouched, LosesAllTicks, AtLeast, HoldsAt, IsAtLock, IsTouchedByAnother, IsSpentAt, HoldsUnticked}
 
 module _ (lk : ℕ → ℕ) (start : Core) (events : List Event) where
   -- the value of a client just before a place
@@ -24,6 +24,13 @@ module _ (lk : ℕ → ℕ) (start : Core) (events : List Event) where
   ShowsAt k attempt n action conflict =
       IsStepOf events k attempt n action
       × Shows lk (client_at k n) action (found lk (core_at lk start events n) action) conflict
+
+  -- an attempt that shows a conflict has begun before
+  abbrev pub EachHasBegun : Type 0
+  EachHasBegun =
+      (k attempt to : ℕ) (action : Action) (conflict : Conflict)
+      → ShowsAt k attempt to action conflict
+      → (from : ℕ) × (from < to) × IsStepOf events k attempt from begin
 
   -- every conflict has a cause, between the begin of the attempt and the step that shows it
   abbrev pub EachHasACause : Type 0
@@ -58,9 +65,48 @@ module _ (lk : ℕ → ℕ) (start : Core) (events : List Event) where
       → begins k events to ≡ attempt → (client_at k to).attempt.phase ≡ running
       → GoesOnAlone lawful lk (core_at lk start events to) (client_at k to)
 
+  -- an attempt shows no conflict with a step if no other client holds one of its stripes when it
+  -- begins, none takes or releases one since, and it has not lost sixteen ticks
+  abbrev pub UntouchedMeetsNone : Type 0
+  UntouchedMeetsNone =
+      (k attempt from to : ℕ) (action : Action) (conflict : Conflict)
+      → IsStepOf events k attempt from begin → IsUntouched lk start events k attempt from to
+      → (LosesAllTicks lk start events k attempt to → ⊥)
+      → ShowsAt k attempt to action conflict → ⊥
+
+  -- between two places the client's attempt with this number begins and meets a conflict at a lock,
+  -- which no other client held when the attempt began
+  abbrev pub MeetsFreshConflict : (client low high attempt : ℕ) → Type 0
+  MeetsFreshConflict k low high attempt =
+      (from to l : ℕ) × (action : Action) × (conflict : Conflict)
+      × (low ≤ from) × (to ≤ high) × IsStepOf events k attempt from begin
+      × ShowsAt k attempt to action conflict × IsAtLock conflict l
+      × ((j : ℕ) → j ≢ k → HoldsAt lk start events j l from → ⊥)
+
+  -- if so many attempts of a client meet conflicts at locks that nobody else held when the attempts
+  -- began, then other clients take or release locks as often in that time
+  -- Not said: that an attempt which meets several conflicts has several such steps of others.
+  abbrev pub ConflictsAreCounted : Type 0
+  ConflictsAreCounted =
+      (k low high count : ℕ) → AtLeast count (MeetsFreshConflict k low high)
+      → AtLeast count (λ n. (low < n) × (n < high)
+      × ((l : ℕ) × IsTouchedByAnother lk start events k l n))
+
+  -- while the clock is spent, no step decides an attempt that holds a lock and has won no tick,
+  -- whoever else is there. The attempt stays as it is until it gives a lock back, and can then only
+  -- abort
+  abbrev pub SpentClockDecidesNone : Type 0
+  SpentClockDecidesNone =
+      (k n : ℕ) (action : Action) → get_elem? events n ≡ some (acts k action)
+      → IsSpentAt lk start events n → HoldsUnticked (client_at k n).attempt
+      → (HoldsUnticked (client_at k (suc n)).attempt
+      × ((client_at k (suc n)).attempt.number ≡ (client_at k n).attempt.number))
+      ⊎ (((l : ℕ) × (action ≡ give_back l)) × ((client_at k (suc n)).attempt.phase ≡ ending))
+
 -- what holds of a list of events that is allowed from a first core on
 pub record IsProgressive
     (lawful : RecordLaw) (lk : ℕ → ℕ) (start : Core) (events : List Event) : Type 0 where
+  pub begun : EachHasBegun lk start events
   pub causes : EachHasACause lk start events
   pub aborts : EachAbortShowsAConflict lk start events
   pub undisturbed : UndisturbedMeetsNone lk start events
@@ -75,3 +121,10 @@ EveryListIsProgressive lawful =
     (image : List ℕ) (last stripes : ℕ) (events : List Event) (c : Core)
     → Reaches lawful image last stripes events c
     → IsProgressive lawful (stripe_of stripes) (opened image last stripes) events
+
+-- P holds of every list of allowed events, from the opening on which the list begins
+abbrev pub OfEveryList : RecordLaw → ((ℕ → ℕ) → Core → List Event → Type 0) → Type 0
+OfEveryList lawful P =
+    (image : List ℕ) (last stripes : ℕ) (events : List Event) (c : Core)
+    → Reaches lawful image last stripes events c
+    → P (stripe_of stripes) (opened image last stripes) events

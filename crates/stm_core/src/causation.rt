@@ -1,16 +1,42 @@
 //! The causes of conflicts, and worked lists of events, as contracts of functions that do nothing.
 
 ghost use Rattle.stm_core.specs.ConflictExamples.{WorkedConflicts};
-ghost use Rattle.stm_core.specs.Progress.{EveryListIsProgressive};
+ghost use Rattle.stm_core.specs.Progress.{EveryListIsProgressive, OfEveryList};
+ghost use Rattle.stm_core.specs.Progress.{UntouchedMeetsNone, ConflictsAreCounted, SpentClockDecidesNone};
 
 use crate::law::Law;
 
 /// Every conflict has a cause, as a contract, in every list of allowed events. Between the begin of
 /// the attempt and the step that shows the conflict, another client held that lock, released it
-/// with a newer version, took it, or won the ticks that the attempt lost. So an attempt that no
-/// other client disturbs meets no conflict.
+/// with a newer version, took it after the attempt's last probe of it, or won the ticks that the
+/// attempt lost. So an attempt that no other client disturbs meets no conflict.
 pub fn every_conflict_has_a_cause<L: Law>()
     ensures { EveryListIsProgressive L.lawful }
+{}
+
+/// States that an attempt meets no conflict if no other client holds, takes or releases one of its
+/// stripes while it runs, and it loses fewer than [`MOST_TICKS`](crate::MOST_TICKS) ticks. Its
+/// stripes are the locks of the words that it reads and writes. Other clients may commit to any
+/// other words meanwhile.
+///
+/// Not said: that the attempt commits. It may stop between two steps, and it may give its locks
+/// back on its own account.
+pub fn untouched_attempts_meet_no_conflict<L: Law>()
+    ensures { OfEveryList L.lawful UntouchedMeetsNone }
+{}
+
+/// States that conflicts are not more than their causes. If n attempts of a client meet conflicts
+/// at locks that nobody else held when the attempts began, then other clients take or release locks
+/// at n steps or more in that time.
+pub fn conflicts_have_as_many_steps_of_others<L: Law>()
+    ensures { OfEveryList L.lawful ConflictsAreCounted }
+{}
+
+/// States that a spent clock stops every attempt that holds a lock and has won no tick, also if no
+/// other client is there. No step decides the attempt. The attempt can only give its locks back,
+/// which is no conflict.
+pub fn a_spent_clock_decides_no_writer<L: Law>()
+    ensures { OfEveryList L.lawful SpentClockDecidesNone }
 {}
 
 /// Worked lists of events, as a contract: each ends in a conflict of its kind, with its cause.

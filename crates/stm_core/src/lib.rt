@@ -8,9 +8,9 @@
 //!
 //! Besides, the crate has versions, lock words, tags and laws of records, which a transactional
 //! memory adds to the data words of `tx_memory` (the encoding of a lock word is this product's
-//! own); and progressiveness of the core (Guerraoui, Kapałka, POPL 2009), up to stripes and the
-//! bound on ticks: every conflict that aborts an attempt is caused by another client, between the
-//! attempt's begin and the step that shows the conflict.
+//! own); and progressiveness of the core (Guerraoui, Kapałka, POPL 2009), up to stripes, the bound
+//! on ticks and a spent clock: every conflict that aborts an attempt is caused by another client,
+//! between the attempt's begin and the step that shows the conflict.
 #![tactic(auto)]
 
 mod causation;
@@ -19,7 +19,11 @@ mod limits;
 mod theorem;
 mod version;
 
-pub use causation::{every_conflict_has_a_cause, worked_conflicts_have_their_causes};
+pub use causation::{
+    a_spent_clock_decides_no_writer, conflicts_have_as_many_steps_of_others,
+    every_conflict_has_a_cause, untouched_attempts_meet_no_conflict,
+    worked_conflicts_have_their_causes,
+};
 pub use law::{FreeLaw, Law, Tag, Writes, law_keeps_fitting};
 pub use limits::{MOST_GRANTS, MOST_RENEWALS, MOST_STRIPES, MOST_TICKS, MOST_WORDS};
 pub use theorem::{core_theorem, core_theorem_of, worked_lists_have_their_records};
