@@ -15,6 +15,7 @@ pub mod Marking
 pub mod Stable
 pub mod Soonest
 pub mod Judged
+pub mod Deciding
 pub mod Exact
 pub mod Checks
 pub mod StuckCalls

@@ -10,6 +10,7 @@ pub mod Sorting
 pub mod Point
 pub mod Stuck
 pub mod Judging
+pub mod Deciding
 pub mod Checking
 pub mod Reaching
 pub mod Frontier

@@ -8,6 +8,7 @@ mod frontier;
 mod index;
 mod known;
 mod lasts;
+mod laws;
 mod links;
 mod marks;
 mod order;
@@ -19,6 +20,7 @@ mod stuck;
 mod walk;
 
 pub use calls::Calls;
+pub use laws::{a_search_ends, enough_steps_decide};
 pub use order::{find_linearization, is_linearization};
 pub use point::Point;
 pub use reaching::states_left;
