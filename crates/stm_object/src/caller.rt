@@ -80,7 +80,7 @@ impl<'a, S: Object> Caller<'a, S> {
     /// Runs an update as a transaction, in at most `tries` attempts. An update that stops with an
     /// error changes nothing.
     ///
-    /// Not said: that a call terminates.
+    /// Not said: that a call answers; it may end with a conflict after its last attempt.
     pub fn run<U: Update<S>>(&mut self, update: &U, tries: u32) -> Result<U::Answer, Stop>
         requires tries { 1 ≤ tries }
         ensures caller { GoesOn self.old self.new }
@@ -95,7 +95,7 @@ impl<'a, S: Object> Caller<'a, S> {
     /// Runs a query as a transaction, in at most `tries` attempts. Only a conflict stops the
     /// query.
     ///
-    /// Not said: that a call terminates.
+    /// Not said: that a call answers; it may end with a conflict after its last attempt.
     pub fn ask<Q: Query<S>>(&mut self, query: &Q, tries: u32) -> Result<Q::Answer, Stop>
         requires tries { 1 ≤ tries }
         ensures caller { GoesOn self.old self.new }
@@ -112,7 +112,7 @@ impl<'a, S: Object> Caller<'a, S> {
     /// its reads are done. The tracer traces the attempts.
     ///
     /// Not said: when the gate is told, which no clause names; that a gate never waits; that a call
-    /// terminates.
+    /// answers.
     #[inline(always)]
     pub fn call<B: Body<S>, G: Gate, T: Tracer>(
         &mut self,

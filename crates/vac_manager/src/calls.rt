@@ -50,7 +50,7 @@ fn placed_of(answer: Result<(Reply, CommitPosition), Stop>) -> Result<PlacedRepl
 /// reply. After any fault the client may call again. A solo client meets no conflict, so its call
 /// makes one attempt.
 ///
-/// Not said: that a call terminates.
+/// Not said: that a call answers; it may end with a conflict after its last attempt.
 pub fn call(caller: &mut Caller<'_>, task: &Task, tries: u32) -> Result<Reply, Fault>
     ensures caller { GoesOn caller.old caller.new }
     ensures called { HasCalled caller.old.shared task.now tries result
@@ -71,7 +71,7 @@ pub fn call(caller: &mut Caller<'_>, task: &Task, tries: u32) -> Result<Reply, F
 ///
 /// Not said: when the gate is told, which no clause names; that a gate, which may hold anything its
 /// maker gave it, never waits; by which conflicts the attempts before the last one are counted;
-/// that a call terminates.
+/// that a call answers.
 pub fn trace_call<G: Gate, T: Tracer>(
     caller: &mut Caller<'_>,
     task: &Task,
