@@ -4,8 +4,7 @@ write with what the pages say. An example is a block of a page of which the firs
 '$ ': each such line is a command for bash, and the lines behind it are what it writes. In a
 command './vacation' is the program, a file that is built already: the argument, or with none the
 one that the repository's last build left; './judge' is that beside it, and './explain', './convert' and the files of
-docs are there, too. So is 'kv_judge', if it is built in its crate beside that of the program; otherwise its examples
-are skipped."""
+docs are there, too."""
 
 import os
 import subprocess
@@ -17,7 +16,6 @@ import built
 ROOT = os.path.join(os.path.dirname(os.path.realpath(__file__)), "..")
 PAGES = ["README.md", "docs/USING.md", "docs/RULES.md", "docs/JUDGE.md"]
 FENCE = "```"
-KEYS = "kv_judge"
 PROMPT = "$ "
 
 
@@ -65,35 +63,28 @@ def run(command, folder):
 
 
 def main():
-    program, judge, keys = built.vacation(), built.judge(), built.other(KEYS)
+    program, judge = built.vacation(), built.judge()
     for name, path in (("vacation", program), ("judge", judge)):
         if not os.access(path, os.X_OK):
             sys.exit(f"examples: there is no program at {path}: './{name}' builds it")
-    has_keys = os.access(keys, os.X_OK)
-    played = failed = skipped = 0
+    played = failed = 0
     with tempfile.TemporaryDirectory() as folder:
         os.symlink(os.path.realpath(program), os.path.join(folder, "vacation"))
         os.symlink(os.path.realpath(judge), os.path.join(folder, "judge"))
         for name in ("explain", "convert", "docs"):
             os.symlink(os.path.realpath(os.path.join(ROOT, name)), os.path.join(folder, name))
-        if has_keys:
-            os.symlink(os.path.realpath(keys), os.path.join(folder, KEYS))
         for page in PAGES:
             found = examples(os.path.join(ROOT, page))
             if not found:
                 sys.exit(f"examples: there are no examples in {page}")
             for number, command, wanted in found:
-                if KEYS in command and not has_keys:
-                    skipped += 1
-                    continue
                 played += 1
                 written = run(command, folder)
                 if written != wanted:
                     failed += 1
                     print(f"examples: {page}, line {number}: {command}", file=sys.stderr)
                     print(f"wanted:\n{wanted}written:\n{written}", file=sys.stderr)
-    told = f", {skipped} skipped: {KEYS} is not built" if skipped else ""
-    print(f"examples: {played - failed} of {played} examples write what their pages say{told}")
+    print(f"examples: {played - failed} of {played} examples write what their pages say")
     return 1 if failed else 0
 
 

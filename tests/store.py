@@ -1,11 +1,11 @@
 #!/usr/bin/env python3
 """Draws 2,000 small histories of a key-value store, some with damaged lines, pending and undetermined calls and equal
-times, and compares the verdicts of the program kv_judge with those of a search that tries every order. Draws 2,000 more
+times, and compares the verdicts of 'judge keys' with those of a search that tries every order. Draws 2,000 more
 in which keys have drawn first values, some with a damaged start file, and 2,000 with transactions over several keys,
 half of them with first values, for whole stores of one or several classes of keys. Then gives it hostile input: a
 history and a start file cut at each byte, keys of all bytes, values of 1 MiB, a million keys and words, bytes that are
 no text, command lines that it must refuse, too little memory, an input that cannot be read, an output that cannot be
-written, more steps than there are. Its argument is the program vacation, beside whose crate that of kv_judge stands;
+written, more steps than there are. Its argument is the program vacation, beside whose crate that of judge stands;
 with none it is the one that the last build left."""
 
 import os
@@ -28,7 +28,9 @@ BYTES = [b"", b"a", b"b", b"a>b", b"->", b"-", b" ", b'"', b"%", b"\n\x00\xff", 
 # What a transaction leaves as it is.
 KEEP = object()
 # The status by the first word of a verdict, and that after a fault of a stream or of memory.
-STATUSES, STOPPED = {b"legal": 0, b"illegal": 1, b"fault": 1, b"undecided": 3, b"touching": 3}, 2
+STATUSES, STOPPED = {b"legal": 0, b"illegal": 1, b"fault": 1, b"undecided": 3, b"touching": 3}, 4
+# The status of a refused command line.
+REFUSED = 2
 # What the program may take beside the text and for each call, in bytes.
 MOST_BESIDE, MOST_EACH = 64 << 20, 512
 # What the program may take for a search among calls that overlap, in bytes.
@@ -418,7 +420,7 @@ def is_right(program, text, start=None, whole=False):
     with tempfile.NamedTemporaryFile() as file:
         file.write(start or b"")
         file.flush()
-        words = [program, *(["--whole"] if whole else []), *([] if start is None else ["--start", file.name])]
+        words = [program, "keys", *(["--whole"] if whole else []), *([] if start is None else ["--start", file.name])]
         done = subprocess.run(words, input=text, capture_output=True, timeout=60, check=False)
     lines = done.stdout.split(b"\n")[:-1]
     if not lines or done.returncode != status_of(want):
@@ -434,7 +436,7 @@ def told_of(program, text):
     with tempfile.TemporaryFile() as given, tempfile.TemporaryFile() as out:
         given.write(text)
         given.seek(0)
-        child = subprocess.Popen([program], stdin=given, stdout=out)
+        child = subprocess.Popen([program, "keys"], stdin=given, stdout=out, stderr=subprocess.DEVNULL)
         _, status, used = os.wait4(child.pid, 0)
         child.returncode = os.waitstatus_to_exitcode(status)
         out.seek(0)
@@ -481,18 +483,19 @@ def bears_cut_starts(program):
 
 def bears_usage(program):
     """Whether command lines that the program does not know are refused, and nothing is judged then."""
-    refused = (["--begin"], ["--start"], ["--start", "/"], ["--start", f"{HERE}/none"], ["--start", __file__, "more"],
-               ["--help", "more"], ["history"], [""])
-    refused += (["--whole", "more"], ["--whole", "--start"], ["--whole", "--whole"], ["--start", __file__, "--whole"])
-    for words in refused:
-        done = subprocess.run([program, *words], input=b"0 0 1 get", capture_output=True, timeout=60, check=False)
-        # A folder is opened, and then cannot be read.
-        named = done.stdout == b"fault read\n" if words == ["--start", "/"] else done.stderr and not done.stdout
-        if done.returncode != STOPPED or not named:
+    refused = (["--begin"], ["--start"], ["--start", __file__, "more"], ["history"], [""], ["--whole", "more"],
+               ["--whole", "--start"], ["--whole", "--whole"], ["--given-order"], ["--level", "strict"],
+               ["--level", "sequential"], ["--steps", "-1"])
+    # A folder is opened, and then cannot be read.
+    stopped = ((["--start", "/"], b"fault read\n"), (["--start", f"{HERE}/none", "--whole"], b"fault open\n"))
+    for words, told in (*((words, None) for words in refused), *stopped):
+        done = subprocess.run([program, "keys", *words], input=b"0 0 1 get", capture_output=True, timeout=60, check=False)
+        named = done.stdout == told if told else done.stderr and not done.stdout
+        if done.returncode != (STOPPED if told else REFUSED) or not named:
             print(f"store: {words}: status {done.returncode}, {done.stdout!r} {done.stderr!r}")
             return False
-    done = subprocess.run([program, "--help"], stdin=subprocess.DEVNULL, capture_output=True, check=False)
-    if done.returncode or b"--start FILE" not in done.stdout:
+    done = subprocess.run([program, "keys", "--help"], stdin=subprocess.DEVNULL, capture_output=True, check=False)
+    if done.returncode or b"--start <FILE>" not in done.stdout:
         print(f"store: help: status {done.returncode}, {done.stdout!r}")
         return False
     return True
@@ -528,7 +531,7 @@ def bears_refusals(program):
     text = b"".join(b'%d %d %d put "%x" "v" -> ok\n' % (place % 64, place, place, place) for place in range(50_000))
     right, told = b"legal calls=50000 clients=64 objects=50000\n", set()
     for mebibytes in (4, 8, 16, 24, 32, 64):
-        done = subprocess.run(["bash", "-c", 'ulimit -v "$1"; exec "$0"', program, str(mebibytes << 10)], input=text,
+        done = subprocess.run(["bash", "-c", 'ulimit -v "$1"; exec "$0" keys', program, str(mebibytes << 10)], input=text,
                               capture_output=True, check=False)
         if (done.stdout, done.returncode) not in ((right, 0), (b"fault memory\n", STOPPED)):
             print(f"store: with {mebibytes} MiB: status {done.returncode}, {done.stdout!r} {done.stderr!r}")
@@ -542,8 +545,8 @@ def bears_refusals(program):
 def bears_streams(program):
     """Whether an input that cannot be read is a named fault, and an output that cannot be written has its status."""
     text = b'0 0 1 put "a" "b" -> ok\n'
-    unread = subprocess.run(["bash", "-c", 'exec "$0" < /', program], capture_output=True, check=False)
-    unwritten = subprocess.run(["bash", "-c", 'exec "$0" > /dev/full', program], input=text, capture_output=True,
+    unread = subprocess.run(["bash", "-c", 'exec "$0" keys < /', program], capture_output=True, check=False)
+    unwritten = subprocess.run(["bash", "-c", 'exec "$0" keys > /dev/full', program], input=text, capture_output=True,
                                check=False)
     right = (unread.stdout, unread.returncode, unwritten.returncode) == (b"fault read\n", STOPPED, STOPPED)
     if not right:
@@ -618,7 +621,7 @@ def bears_classes(program):
              (wrong, b'illegal part 4001 "0007x"\nstuck 4001 "w"\n', 1),
              (chain, b"legal calls=2000 clients=1 objects=1\n", 0))
     for text, want, status in texts:
-        done = subprocess.run([program, "--whole"], input=text, capture_output=True, timeout=60, check=False)
+        done = subprocess.run([program, "keys", "--whole"], input=text, capture_output=True, timeout=60, check=False)
         if (done.stdout, done.returncode) != (want, status):
             print(f"store: classes: expected {want!r}, got {done.stdout[:80]!r}, status {done.returncode}")
             return False
@@ -656,9 +659,9 @@ def main():
     """Status 0: all verdicts are right and each kind came up."""
     vacation = sys.argv[1] if len(sys.argv) > 1 else f"{HERE}/../crates/vacation/out/vacation"
     crates = os.path.dirname(os.path.dirname(os.path.dirname(os.path.abspath(vacation))))
-    program = f"{crates}/kv_judge/out/kv_judge"
+    program = f"{crates}/judge/out/judge"
     if not os.access(program, os.X_OK):
-        print(f"store: {program} is missing: build kv_judge first")
+        print(f"store: {program} is missing: build judge first")
         return 1
     wanted = {b"legal", b"touching", b"illegal client", b"illegal part", b"fault bad-call", b"fault bad-number",
               b"fault bad-operation", b"fault bad-reply", b"fault half-call"}

@@ -84,7 +84,7 @@ module _ {S O R : Type 0} (X : Rules S O R) (name : O → List ℕ)
   -- names the fault
   pub record HasEndedByFault (status : ℕ) (unread left held holds : Option (List ℕ)) : Type 0 where
     pub fault : StreamFault
-    pub status_is : status ≡ 2
+    pub status_is : status ≡ 4
     pub middle : Option (List ℕ)
     pub stopped : HasStopped fault unread left held middle
     pub line : AppendsPrefix middle holds (fault_line fault)
