@@ -13,7 +13,7 @@ use Rattle.cli_judge.specs.declared.status.TheConstants.{FAULT}
 use Rattle.cli_judge.specs.Ordering.{Orders}
 use Rattle.cli_judge.specs.Asking.{Refuses, JudgesAsked, JudgesOpacity}
 use Rattle.cli_judge.specs.Keys.{JudgesKeysAsked}
-use Rattle.cli_judge.specs.Objects.{JudgesQueueAsked}
+use Rattle.cli_judge.specs.Objects.{JudgesQueue, settings_of}
 use Rattle.cli_judge.specs.Parting.{WritesPartOf}
 use Rattle.cli_judge.specs.Reporting.{Reports}
 
@@ -33,7 +33,7 @@ Fulfils files (Part words) status unread left held holds =
 Fulfils files (Keys how) status unread left held holds =
     JudgesKeysAsked files how status unread left held holds
 Fulfils files (Queue search) status unread left held holds =
-    JudgesQueueAsked search status unread left held holds
+    JudgesQueue (settings_of search) status unread left held holds
 
 -- the text of `--version`: the name and version of the program, and the toolchain that proved and
 -- built it

@@ -14,7 +14,8 @@ use Rattle.judge_options.specs.declared.asked.Request.TheVariants.{History, Orde
 use Rattle.judge_options.specs.declared.asked.Request.TheVariants.{Attempts, Part}
 use Rattle.judge_options.specs.declared.asked.Request.TheVariants.{UnknownLevel, Keys, Queue}
 use Rattle.judge_options.specs.declared.asked.SearchSettings.{SearchSettings}
-use Rattle.cli_judge.specs.Asking.{is_refused, is_below}
+use Rattle.cli_judge.specs.Asking.{is_refused}
+use Rattle.cli_judge.specs.Keys.{lacks_whole}
 
 -- a report: the figures if they are asked for, and behind them the warnings if the status is that
 -- of a positive verdict
@@ -71,11 +72,12 @@ ReportsUnless true how status told tells = ⊤
 ReportsUnless false how status told tells =
     ReportsBeside how.search.progress how.search.stats (is_some how.tasks) status told tells
 
--- what a judge of keys or of a queue reports, unless the command line is refused
+-- what a judge of a key-value store reports, unless the command line is refused
 -- Not said: the text about a refused command line.
-abbrev pub ReportsSearch : Bool → SearchSettings → ℕ → Option (List ℕ) → Option (List ℕ) → Type 0
-ReportsSearch true search status told tells = ⊤
-ReportsSearch false search status told tells =
+abbrev pub ReportsKeysUnless : Bool → SearchSettings → ℕ → Option (List ℕ) → Option (List ℕ)
+    → Type 0
+ReportsKeysUnless true search status told tells = ⊤
+ReportsKeysUnless false search status told tells =
     ReportsBeside search.progress search.stats false status told tells
 
 -- what the program reports on standard error if it does what a command line asks for
@@ -88,6 +90,6 @@ Reports UnknownLevel status told tells = ⊤
 Reports (Attempts how) status told tells = ReportsAttempts how.stats status told tells
 Reports (Part words) status told tells = ⊤
 Reports (Keys how) status told tells =
-    ReportsSearch (is_below how.search.level) how.search status told tells
+    ReportsKeysUnless (lacks_whole how) how.search status told tells
 Reports (Queue search) status told tells =
-    ReportsSearch (is_below search.level) search status told tells
+    ReportsBeside search.progress search.stats false status told tells

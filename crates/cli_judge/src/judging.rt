@@ -99,7 +99,7 @@ fn has_stray_settings(how: &JudgeSettings<'_>) -> bool
 }
 
 /// Returns whether a level keeps less order than linearizability.
-pub(crate) fn is_below(level: Level) -> bool
+fn is_below(level: Level) -> bool
     ensures { result ≡ is_below level }
 {
     match level {

@@ -4,25 +4,28 @@ ghost use Rattle.std.specs.Prelude.{◌≡◌, ℕ, List, None, true, false, IfO
 ghost use Rattle.judge_coverage.specs.Watching.{inner_of};
 ghost use Rattle.judge_text.specs.Program.{HasRead};
 ghost use Rattle.judge_kv.specs.Starting.{AreFirstValues};
-ghost use Rattle.cli_judge.specs.Asking.{is_below};
 ghost use Rattle.cli_judge.specs.Keys.{JudgesKeys, JudgesStore, ReadsStart, JudgesUnstarted};
-ghost use Rattle.cli_judge.specs.Keys.{JudgesKeysOf, JudgesKeysAsked, NamesStartFault};
-ghost use Rattle.cli_judge.specs.Reporting.{ReportsSearch};
+ghost use Rattle.cli_judge.specs.Keys.{JudgesKeysOf, JudgesKeysAsked, NamesStartFault, lacks_whole};
+ghost use Rattle.cli_judge.specs.Objects.{settings_of};
+ghost use Rattle.cli_judge.specs.Reporting.{ReportsKeysUnless};
 
 use crate::files::{Open, open_file};
-use crate::judging::is_below;
-use crate::objects::{LINE_BYTES, NO_LEVEL, judge_objects};
+use crate::objects::{LINE_BYTES, judge_objects};
 use crate::reporting::{most_watched, report_calls};
 use crate::status::{NO, end_by, end_with};
 use cli_common::refuse;
 use judge_coverage::Watched;
 use judge_kv::{Cell, FirstValues, StartFault, StartValues, Store, read_first_values};
+use judge_object::Level;
 use judge_options::{KeysSettings, SearchSettings};
 use judge_text::{Starts, read_all};
 use std::alloc::Global;
 use std::io::{Read, Write};
 use std::time::Clock;
 use vac_lines::{StreamFault, print};
+
+/// The refusal of sequential consistency of keys that are judged by themselves.
+const NO_WHOLE: &[u8] = b"error: --level sequential needs --whole\n";
 
 /// Reads a start file to its end. The values go into a place in which no key has one.
 fn read_start<F: StartValues, S: Read>(
@@ -59,7 +62,7 @@ fn judge_keys_alone<T: Clock + AllocGlobal, R: Read, W: Write, E: Write>(
     output: &mut W,
     errors: &mut E,
 ) -> u8
-    ensures judged { JudgesKeys (λ key. None) search.steps result
+    ensures judged { JudgesKeys (λ key. None) (settings_of search) result
         (R.remaining input.old) (R.remaining input.new)
         (W.contents output.old) (W.contents output.new) }
     ensures untold { search.progress ≡ false → E.contents errors.new ≡ E.contents errors.old }
@@ -78,7 +81,7 @@ fn judge_store<T: Clock + AllocGlobal, R: Read, W: Write, E: Write>(
     output: &mut W,
     errors: &mut E,
 ) -> u8
-    ensures judged { JudgesStore store search.steps result
+    ensures judged { JudgesStore store (settings_of search) result
         (R.remaining input.old) (R.remaining input.new)
         (W.contents output.old) (W.contents output.new) }
     ensures untold { search.progress ≡ false → E.contents errors.new ≡ E.contents errors.old }
@@ -97,7 +100,7 @@ fn judge_keys_from<T: Clock + AllocGlobal, S: Read, R: Read, W: Write, E: Write>
     output: &mut W,
     errors: &mut E,
 ) -> u8
-    ensures judged { ReadsStart false search.steps result (S.remaining file.old)
+    ensures judged { ReadsStart false (settings_of search) result (S.remaining file.old)
         (R.remaining input.old) (R.remaining input.new)
         (W.contents output.old) (W.contents output.new) }
     ensures untold { search.progress ≡ false → E.contents errors.new ≡ E.contents errors.old }
@@ -123,7 +126,7 @@ fn judge_store_from<T: Clock + AllocGlobal, S: Read, R: Read, W: Write, E: Write
     output: &mut W,
     errors: &mut E,
 ) -> u8
-    ensures judged { ReadsStart true search.steps result (S.remaining file.old)
+    ensures judged { ReadsStart true (settings_of search) result (S.remaining file.old)
         (R.remaining input.old) (R.remaining input.new)
         (W.contents output.old) (W.contents output.new) }
     ensures untold { search.progress ≡ false → E.contents errors.new ≡ E.contents errors.old }
@@ -145,7 +148,7 @@ fn judge_unstarted<T: Clock + AllocGlobal, R: Read, W: Write, E: Write>(
     output: &mut W,
     errors: &mut E,
 ) -> u8
-    ensures judged { JudgesUnstarted how.entry.whole how.entry.search.steps result
+    ensures judged { JudgesUnstarted how.entry.whole (settings_of how.entry.search) result
         (R.remaining input.old) (R.remaining input.new)
         (W.contents output.old) (W.contents output.new) }
     ensures untold { how.entry.search.progress ≡ false →
@@ -169,7 +172,7 @@ fn judge_started<T: Clock + AllocGlobal, S: Read, R: Read, W: Write, E: Write>(
     output: &mut W,
     errors: &mut E,
 ) -> u8
-    ensures judged { ReadsStart how.entry.whole how.entry.search.steps result
+    ensures judged { ReadsStart how.entry.whole (settings_of how.entry.search) result
         (S.remaining file.old) (R.remaining input.old) (R.remaining input.new)
         (W.contents output.old) (W.contents output.new) }
     ensures untold { how.entry.search.progress ≡ false →
@@ -193,7 +196,7 @@ fn judge_keys_of<T: Clock + AllocGlobal, F: Open, R: Read, W: Write, E: Write>(
     errors: &mut E,
 ) -> u8
     ensures judged { JudgesKeysOf (F.holds files.now) how.entry.start how.entry.whole
-        how.entry.search.steps result (R.remaining input.old) (R.remaining input.new)
+        (settings_of how.entry.search) result (R.remaining input.old) (R.remaining input.new)
         (W.contents output.old) (W.contents output.new) }
     ensures untold { how.entry.search.progress ≡ false →
         E.contents errors.new ≡ E.contents errors.old }
@@ -202,6 +205,17 @@ fn judge_keys_of<T: Clock + AllocGlobal, F: Open, R: Read, W: Write, E: Write>(
         Ok(None) => judge_unstarted(rt, how, input, output, errors),
         Ok(Some(mut file)) => judge_started(rt, &mut file, how, input, output, errors),
         Err(status) => status,
+    }
+}
+
+/// Returns whether the command line asks for sequential consistency of keys that are judged by
+/// themselves. Sequential consistency is not local: that of each key does not show that of all.
+fn lacks_whole(how: &KeysSettings<'_>) -> bool
+    ensures { result ≡ lacks_whole how.now }
+{
+    match how.search.level {
+        Level::Sequential => !how.whole,
+        Level::Linearizable | Level::Serializable => false,
     }
 }
 
@@ -218,11 +232,11 @@ pub(crate) fn judge_keys<T: Clock + AllocGlobal, F: Open, R: Read, W: Write, E: 
     ensures judged { JudgesKeysAsked (F.holds files.now) how.entry result
         (R.remaining (inner_of input.old)) (R.remaining (inner_of input.new))
         (W.contents output.old) (W.contents output.new) }
-    ensures reported { ReportsSearch (is_below how.entry.search.level) how.entry.search result
+    ensures reported { ReportsKeysUnless (lacks_whole how.entry) how.entry.search result
         (E.contents errors.old) (E.contents errors.new) }
 {
-    if is_below(how.search.level) {
-        return refuse(NO_LEVEL, errors);
+    if lacks_whole(&how) {
+        return refuse(NO_WHOLE, errors);
     }
     input.watch(LINE_BYTES, most_watched(how.search.stats));
     let status = judge_keys_of(rt, files, how, input, output, errors);

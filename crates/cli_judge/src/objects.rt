@@ -4,18 +4,15 @@ ghost use Rattle.std.specs.Prelude.{◌≡◌, true, false};
 ghost use Rattle.judge_coverage.specs.Watching.{inner_of};
 ghost use Rattle.judge_text.specs.Program.{HasEnded};
 ghost use Rattle.judge_text.specs.Starts.{start_of};
-ghost use Rattle.cli_judge.specs.Asking.{is_below};
-ghost use Rattle.cli_judge.specs.Objects.{JudgesQueue, JudgesQueueAsked};
-ghost use Rattle.cli_judge.specs.Reporting.{ReportsSearch};
+ghost use Rattle.cli_judge.specs.Objects.{JudgesQueue, settings_of};
+ghost use Rattle.cli_judge.specs.Reporting.{ReportsBeside};
 
-use crate::judging::is_below;
 use crate::progress::ProgressWatcher;
 use crate::reporting::{most_watched, report_calls};
-use cli_common::refuse;
 use judge_coverage::Watched;
 use judge_options::SearchSettings;
 use judge_queue::Queue;
-use judge_text::{Starts, TextObject, judge_input};
+use judge_text::{Settings, Starts, TextObject, judge_input};
 use std::io::{Read, Write};
 use std::time::Clock;
 
@@ -23,8 +20,15 @@ use std::time::Clock;
 /// values of a call, and is as long as the text may be.
 pub(crate) const LINE_BYTES: usize = 1 << 40;
 
-/// The refusal of a level below linearizability.
-pub(crate) const NO_LEVEL: &[u8] = b"error: this history is judged at the level linearizable\n";
+/// Returns the settings of the judge of a history of objects.
+fn settings_of(search: SearchSettings) -> Settings
+    ensures { result ≡ settings_of search }
+{
+    Settings {
+        level: search.level,
+        steps: search.steps,
+    }
+}
 
 /// Judges a history of objects, each of which begins in the state that is given for its name, and
 /// returns the status: 0 if the history is legal. If the command line asks for progress, writes
@@ -43,17 +47,17 @@ pub(crate) fn judge_objects<
     output: &mut W,
     errors: &mut E,
 ) -> u8
-    ensures judged { HasEnded M.rules M.name M.naming M.language (start_of starts.now) search.steps
-        result (R.remaining input.old) (R.remaining input.new)
+    ensures judged { HasEnded M.rules M.name M.naming M.language (start_of starts.now)
+        (settings_of search) result (R.remaining input.old) (R.remaining input.new)
         (W.contents output.old) (W.contents output.new) }
     ensures untold { search.progress ≡ false → E.contents errors.new ≡ E.contents errors.old }
 {
-    let alloc = rt.alloc();
+    let (alloc, how) = (rt.alloc(), settings_of(search));
     if search.progress {
         let mut teller = ProgressWatcher::new(rt, errors);
-        judge_input(alloc, starts, search.steps, input, output, &mut teller)
+        judge_input(alloc, starts, how, input, output, &mut teller)
     } else {
-        judge_input(alloc, starts, search.steps, input, output, &mut ())
+        judge_input(alloc, starts, how, input, output, &mut ())
     }
 }
 
@@ -65,7 +69,7 @@ fn judge_empty<T: Clock + AllocGlobal, R: Read, W: Write, E: Write>(
     output: &mut W,
     errors: &mut E,
 ) -> u8
-    ensures judged { JudgesQueue search.steps result
+    ensures judged { JudgesQueue (settings_of search) result
         (R.remaining input.old) (R.remaining input.new)
         (W.contents output.old) (W.contents output.new) }
     ensures untold { search.progress ≡ false → E.contents errors.new ≡ E.contents errors.old }
@@ -84,15 +88,12 @@ pub(crate) fn judge_queue<T: Clock + AllocGlobal, R: Read, W: Write, E: Write>(
     output: &mut W,
     errors: &mut E,
 ) -> u8
-    ensures judged { JudgesQueueAsked search result
+    ensures judged { JudgesQueue (settings_of search) result
         (R.remaining (inner_of input.old)) (R.remaining (inner_of input.new))
         (W.contents output.old) (W.contents output.new) }
-    ensures reported { ReportsSearch (is_below search.level) search result
+    ensures reported { ReportsBeside search.progress search.stats false result
         (E.contents errors.old) (E.contents errors.new) }
 {
-    if is_below(search.level) {
-        return refuse(NO_LEVEL, errors);
-    }
     input.watch(LINE_BYTES, most_watched(search.stats));
     let status = judge_empty(rt, search, input, output, errors);
     report_calls(

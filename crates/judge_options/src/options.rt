@@ -173,7 +173,9 @@ fn keys_command<'a>(alloc: Global) -> Made<'a>
         "Judges all keys at once, so that a transaction may have several keys",
     );
     let command = Command::new(alloc, "keys")
-        .about("Judges whether the history of a key-value store on standard input has a linearization")
+        .about(
+            "Judges whether the history of a key-value store on standard input has a linearization",
+        )
         .after_help("Example:\n  echo '1 0 5 put \"x\" \"1\" -> ok' | judge keys")
         .arg(whole);
     add_searching_options(alloc, add_option(command, start_option(alloc)))
@@ -184,7 +186,9 @@ fn queue_command<'a>(alloc: Global) -> Made<'a>
     ensures { IfOk result (λ c. IsCommand c (with_options (codes "queue") searching_options)) }
 {
     let command = Command::new(alloc, "queue")
-        .about("Judges whether the history of a queue of four numbers on standard input has a linearization")
+        .about(
+            "Judges whether the history of a queue of four numbers on standard input has a linearization",
+        )
         .after_help("Example:\n  echo '1 0 5 enqueue 3 -> true' | judge queue");
     add_searching_options(alloc, Ok(command))
 }
@@ -208,9 +212,6 @@ pub(crate) fn command_line<'a>(alloc: Global) -> Made<'a>
         add_command(top, order_command(alloc)),
         attempts_command(alloc),
     );
-    let top = add_command(
-        add_command(top, part_command(alloc)),
-        keys_command(alloc),
-    );
+    let top = add_command(add_command(top, part_command(alloc)), keys_command(alloc));
     add_command(top, queue_command(alloc))
 }

@@ -20,7 +20,9 @@ mod object_laws;
 mod parts;
 mod program;
 mod quoting;
+mod relaxing;
 mod runs;
+mod settings;
 mod starts;
 mod turns;
 mod verdict;
@@ -42,6 +44,7 @@ pub use object_laws::{
 pub use parts::{Blocked, Judged, Undecided, judge_parts};
 pub use program::{judge_history, judge_input, read_all};
 pub use quoting::{Quoted, read_quoted};
+pub use settings::Settings;
 pub use starts::Starts;
 pub use turns::{Turns, find_turns};
 pub use verdict::Outcome;

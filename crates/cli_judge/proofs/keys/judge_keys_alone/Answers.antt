@@ -1,4 +1,4 @@
-use Rattle.cli_judge.proofs.Keys.{judges_without}
+use Rattle.cli_judge.proofs.Stores.{judges_without}
 use Rattle.cli_judge.proofs.keys.judge_keys_alone.Goals as goal
 
 pub returns-clause-judged : goal.returns-clause-judged

@@ -1,6 +1,6 @@
 use Rattle.std.proofs.Common.{refl, false}
 use Rattle.judge_text.specs.Starts.{start_of}
-use Rattle.cli_judge.proofs.Keys.{keys_given, file_fault, file_stopped}
+use Rattle.cli_judge.proofs.Stores.{keys_given, file_fault, file_stopped}
 use Rattle.cli_judge.proofs.keys.judge_keys_from.Goals as goal
 
 pub returns-in-Ok-Given-clause-judged : goal.returns-in-Ok-Given-clause-judged

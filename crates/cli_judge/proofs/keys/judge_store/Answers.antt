@@ -1,4 +1,4 @@
-use Rattle.cli_judge.proofs.Keys.{judges_store}
+use Rattle.cli_judge.proofs.Stores.{judges_store}
 use Rattle.cli_judge.proofs.keys.judge_store.Goals as goal
 
 pub returns-clause-judged : goal.returns-clause-judged

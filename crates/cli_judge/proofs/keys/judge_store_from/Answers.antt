@@ -1,6 +1,6 @@
 use Rattle.std.proofs.Common.{refl, true}
 use Rattle.judge_kv.specs.Stores.{held_at}
-use Rattle.cli_judge.proofs.Keys.{store_given, file_fault, file_stopped}
+use Rattle.cli_judge.proofs.Stores.{store_given, file_fault, file_stopped}
 use Rattle.cli_judge.proofs.keys.judge_store_from.Goals as goal
 
 pub returns-in-Ok-Given-clause-judged : goal.returns-in-Ok-Given-clause-judged

@@ -1,7 +1,7 @@
 use Rattle.std.proofs.Common.{◌≡◌, ◌∙◌, ◌++◌, ap, codes, decimal}
 use Rattle.vac_lines.specs.Script.{as_line}
 use Rattle.cli_judge.specs.Keys.{start_fault_text}
-use Rattle.cli_judge.proofs.Keys.{names_line}
+use Rattle.cli_judge.proofs.Stores.{names_line}
 use Rattle.cli_judge.proofs.keys.name_fault.Goals as goal
 
 pub returns-in-Ok : goal.returns-in-Ok

@@ -1,4 +1,4 @@
-use Rattle.cli_judge.proofs.Keys.{judges_queue}
+use Rattle.cli_judge.proofs.Stores.{judges_queue}
 use Rattle.cli_judge.proofs.objects.judge_empty.Goals as goal
 
 pub returns-clause-judged : goal.returns-clause-judged
