@@ -7,7 +7,8 @@ ghost use Rattle.cli_common.specs.Options.{GetsOptions};
 ghost use Rattle.judge_options.specs.CommandLine.{file_option, history_options, attempts_options};
 ghost use Rattle.judge_options.specs.CommandLine.{level_option, searching_options};
 ghost use Rattle.judge_options.specs.CommandLine.{customer_option, item_option, until_option};
-ghost use Rattle.judge_options.specs.CommandLine.{part_options, top_command, judge};
+ghost use Rattle.judge_options.specs.CommandLine.{part_options, start_option, keys_options};
+ghost use Rattle.judge_options.specs.CommandLine.{top_command, judge};
 
 use clap::{Arg, ArgAction, Command, value_parser};
 use cli_common::{
@@ -72,6 +73,16 @@ fn until_option<'a>(alloc: Global) -> Arg<'a>
         .value_name("LINE")
         .value_parser(value_parser!(u64).range(1..))
         .help("Cuts the history at the end of the call of this line; lines count from 1")
+}
+
+/// Returns the option that names a file of the values that keys have at first.
+fn start_option<'a>(alloc: Global) -> Arg<'a>
+    ensures { IsOption result start_option }
+{
+    Arg::new(alloc, "start")
+        .long("start")
+        .value_name("FILE")
+        .help("Values that keys have at first, a line KEY VALUE for each; other keys have none")
 }
 
 /// Returns the option for the level of an order.
@@ -154,6 +165,34 @@ fn history_command<'a>(alloc: Global) -> Made<'a>
     add_searching_options(alloc, command)
 }
 
+/// Returns the subcommand that judges a history of a key-value store.
+fn keys_command<'a>(alloc: Global) -> Made<'a>
+    ensures { IfOk result (λ c. IsCommand c (with_options (codes "keys") keys_options)) }
+{
+    let whole = flag(alloc, "whole").help(
+        "Judges all keys at once, so that a transaction may have several keys",
+    );
+    let command = Command::new(alloc, "keys")
+        .about(
+            "Judges whether the history of a key-value store on standard input has a linearization",
+        )
+        .after_help("Example:\n  echo '1 0 5 put \"x\" \"1\" -> ok' | judge keys")
+        .arg(whole);
+    add_searching_options(alloc, add_option(command, start_option(alloc)))
+}
+
+/// Returns the subcommand that judges a history of a bounded queue.
+fn queue_command<'a>(alloc: Global) -> Made<'a>
+    ensures { IfOk result (λ c. IsCommand c (with_options (codes "queue") searching_options)) }
+{
+    let command = Command::new(alloc, "queue")
+        .about(
+            "Judges whether the history of a queue of four numbers on standard input has a linearization",
+        )
+        .after_help("Example:\n  echo '1 0 5 enqueue 3 -> true' | judge queue");
+    add_searching_options(alloc, Ok(command))
+}
+
 /// Returns the program before its subcommands are added.
 fn top_command<'a>(alloc: Global) -> Command<'a>
     ensures { app_of result ≡ top_command }
@@ -173,5 +212,6 @@ pub(crate) fn command_line<'a>(alloc: Global) -> Made<'a>
         add_command(top, order_command(alloc)),
         attempts_command(alloc),
     );
-    add_command(top, part_command(alloc))
+    let top = add_command(add_command(top, part_command(alloc)), keys_command(alloc));
+    add_command(top, queue_command(alloc))
 }
