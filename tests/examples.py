@@ -61,8 +61,7 @@ def run(command, folder):
     ended = subprocess.run(
         ["bash", "-c", command], cwd=folder, stdin=subprocess.DEVNULL,
         stdout=subprocess.PIPE, stderr=subprocess.PIPE, timeout=PATIENCE, check=False,
-        env=os.environ | {"JUDGE": os.path.join(folder, "judge"), "KV_JUDGE": os.path.join(folder, KEYS),
-                          "PATH": f"{folder}:{os.environ['PATH']}"},
+        env=os.environ | {"JUDGE": os.path.join(folder, "judge"), "PATH": f"{folder}:{os.environ['PATH']}"},
     )
     return ended.stdout.decode("latin-1"), ended.stderr.decode("latin-1")
 
