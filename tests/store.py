@@ -685,7 +685,7 @@ def main():
     both = {b"legal", b"illegal client", b"illegal part", b"fault bad-operation", b"fault bad-reply"}
     if not (draws_are_right(program, False, both, True) and draws_are_right(program, True, begun, True)):
         return 1
-    below = {b"legal", b"illegal client", b"illegal part"}
+    below = {b"legal", b"illegal part"}
     if not (draws_are_right(program, False, below, True, SEQUENTIAL) and
             draws_are_right(program, True, below, True, SERIALIZABLE) and
             draws_are_right(program, False, below, False, SERIALIZABLE)):

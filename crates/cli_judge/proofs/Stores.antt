@@ -1,5 +1,5 @@
 -- Lemmas on judging histories of keys and of queues: the states at first, the start file, its end by a fault.
-use Rattle.std.proofs.Common.{◌≡◌, ◌∙◌, ℕ, Bool, true, false, List, [], Option, Some, None, sym, subst, refl, inl, inr}
+use Rattle.std.proofs.Common.{◌≡◌, ◌∙◌, ℕ, Bool, true, false, List, [], Option, Some, None, ap, sym, subst, refl, inl, inr}
 use Rattle.std.specs.Prelude.{IsSome, option_map}
 use Rattle.std.specs.Borrow.{Bor}
 use Rattle.vac_lines.specs.Writing.{AppendsPrefix}
@@ -143,24 +143,40 @@ names_line status held holds number fault text is h = inl (subst (λ t. EndsWith
 abbrev file_in : (List ℕ → Option (List ℕ)) → Option (Bor (List ℕ)) → Option (Option (List ℕ))
 file_in files name = option_map (λ n. files n.now) name
 
+none_some : {A : Type 0} (a : A) → None ≡ Some a → ⊥
+none_some a e = cc
+
+some_same : {A : Type 0} (a b : A) → Some a ≡ Some b → a ≡ b
+some_same a b e = cc
+
 module _ (files : List ℕ → Option (List ℕ)) (is_whole : Bool) (how : Settings) (status : ℕ)
     (unread left held middle holds : Option (List ℕ)) where
-  pub of_no_file : (name : Option (Bor (List ℕ))) → None ≡ file_in files name → middle ≡ held →
+  no_file : (name : Option (Bor (List ℕ))) → None ≡ file_in files name → middle ≡ held →
       JudgesUnstarted is_whole how status unread left middle holds →
       JudgesKeysOf files name is_whole how status unread left held holds
-  of_no_file None is same h = subst (λ m. JudgesUnstarted is_whole how status unread left m holds) same h
-  of_no_file (Some name) is same h = absurd (let k : None ≡ Some (files name.now) = is in cc)
+  no_file None is same h = subst (λ m. JudgesUnstarted is_whole how status unread left m holds) same h
+  no_file (Some name) is same h = absurd (none_some (files name.now) is)
 
-  pub of_file : (name : Option (Bor (List ℕ))) (file : Option (List ℕ)) → Some file ≡ file_in files name →
+  one_file : (name : Option (Bor (List ℕ))) (file : Option (List ℕ)) → Some file ≡ file_in files name →
       middle ≡ held → ReadsStart is_whole how status file unread left middle holds →
       JudgesKeysOf files name is_whole how status unread left held holds
-  of_file None file is same h = absurd (let k : Some file ≡ None = is in cc)
-  of_file (Some name) file is same h =
+  one_file None file is same h = absurd (none_some file (sym is))
+  one_file (Some name) file is same h =
       inl (subst (λ m. ReadsStart is_whole how status (files name.now) unread left m holds) same
-      (subst (λ f. ReadsStart is_whole how status f unread left middle holds) (inner file (files name.now) is) h))
-    where
-      inner : (a b : Option (List ℕ)) → Some a ≡ Some b → a ≡ b
-      inner a b e = cc
+      (subst (λ f. ReadsStart is_whole how status f unread left middle holds) (some_same file (files name.now) is) h))
+
+  -- no file was named, or the one that was named was opened; `of` is what a file has
+  pub of_no_file : {X : Type 0} {of : X → Option (List ℕ)} (file : Option X) (name : Option (Bor (List ℕ))) →
+      file ≡ None → option_map of file ≡ file_in files name → middle ≡ held →
+      JudgesUnstarted is_whole how status unread left middle holds →
+      JudgesKeysOf files name is_whole how status unread left held holds
+  of_no_file {X} {of} file name none is same h = no_file name (sym (ap (option_map of) none) ∙ is) same h
+
+  pub of_file : {X : Type 0} {of : X → Option (List ℕ)} (file : Option X) (x : X) (name : Option (Bor (List ℕ))) →
+      file ≡ Some x → option_map of file ≡ file_in files name → middle ≡ held →
+      ReadsStart is_whole how status (of x) unread left middle holds →
+      JudgesKeysOf files name is_whole how status unread left held holds
+  of_file {X} {of} file x name some is same h = one_file name (of x) (sym (ap (option_map of) some) ∙ is) same h
 
   pub of_unopened : (name : Option (Bor (List ℕ))) → IsSome name → NotOpened status held holds →
       JudgesKeysOf files name is_whole how status unread unread held holds

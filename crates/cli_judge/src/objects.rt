@@ -20,16 +20,6 @@ use std::time::Clock;
 /// values of a call, and is as long as the text may be.
 pub(crate) const LINE_BYTES: usize = 1 << 40;
 
-/// Returns the settings of the judge of a history of objects.
-fn settings_of(search: SearchSettings) -> Settings
-    ensures { result ≡ settings_of search }
-{
-    Settings {
-        level: search.level,
-        steps: search.steps,
-    }
-}
-
 /// Judges a history of objects, each of which begins in the state that is given for its name, and
 /// returns the status: 0 if the history is legal. If the command line asks for progress, writes
 /// progress lines to `errors` while it searches.
@@ -52,7 +42,11 @@ pub(crate) fn judge_objects<
         (W.contents output.old) (W.contents output.new) }
     ensures untold { search.progress ≡ false → E.contents errors.new ≡ E.contents errors.old }
 {
-    let (alloc, how) = (rt.alloc(), settings_of(search));
+    let alloc = rt.alloc();
+    let how = Settings {
+        level: search.level,
+        steps: search.steps,
+    };
     if search.progress {
         let mut teller = ProgressWatcher::new(rt, errors);
         judge_input(alloc, starts, how, input, output, &mut teller)

@@ -22,6 +22,13 @@ use std::alloc::Global;
 /// the program, as `rt version` names it.
 pub const VERSION: &str = "judge 0.1.0\nrattle-kit-13f logic dac8208d650f15bf\n";
 
+/// Help of the steps of a judge that searches more than once.
+const EACH_SEARCH: &str =
+    "Most steps of the exact search of all calls, and of each quick search of them";
+
+/// Help of the steps of a judge that searches the calls of each object once.
+const ALL_SEARCHES: &str = "Most steps of the searches of all objects together";
+
 /// Names of the two values of an item in the help.
 const ITEM_NAMES: [&str; 2] = ["KIND", "ID"];
 
@@ -96,13 +103,12 @@ fn level_option<'a>(alloc: Global) -> Arg<'a>
         .help("Level of consistency of the order: linearizable, sequential or serializable")
 }
 
-/// Adds the options of a search for an order, and of the report on the log.
-fn add_searching_options<'a>(alloc: Global, command: Made<'a>) -> Made<'a>
+/// Adds the options of a search for an order, and of the report on the log. The help says which
+/// searches the steps are for.
+fn add_searching_options<'a>(alloc: Global, command: Made<'a>, searches: &'a str) -> Made<'a>
     ensures { GetsOptions command.entry searching_options result }
 {
-    let steps = any_number_option(alloc, "steps", "10000000").help(
-        "Most steps of the exact search of all calls, and of each quick search of them",
-    );
+    let steps = any_number_option(alloc, "steps", "10000000").help(searches);
     let progress = flag(alloc, "progress").help(
         "Reports the progress of the search on standard error, at most twice a second",
     );
@@ -119,7 +125,7 @@ fn order_command<'a>(alloc: Global) -> Made<'a>
         .about("Finds a legal order of the history on standard input, or shows that there is none")
         .after_help("Example:\n  echo '1 0 5 newcust 3 -> true' | judge order")
         .arg(blocks_option(alloc));
-    add_searching_options(alloc, command)
+    add_searching_options(alloc, command, EACH_SEARCH)
 }
 
 /// Returns the subcommand that judges attempts.
@@ -162,7 +168,7 @@ fn history_command<'a>(alloc: Global) -> Made<'a>
         .after_help("Example:\n  echo '1 0 5 newcust 3 -> true' | judge history")
         .arg(blocks_option(alloc));
     let command = add_option(add_option(command, file_option(alloc)), given_order);
-    add_searching_options(alloc, command)
+    add_searching_options(alloc, command, EACH_SEARCH)
 }
 
 /// Returns the subcommand that judges a history of a key-value store.
@@ -178,7 +184,8 @@ fn keys_command<'a>(alloc: Global) -> Made<'a>
         )
         .after_help("Example:\n  echo '1 0 5 put \"x\" \"1\" -> ok' | judge keys")
         .arg(whole);
-    add_searching_options(alloc, add_option(command, start_option(alloc)))
+    let command = add_option(command, start_option(alloc));
+    add_searching_options(alloc, command, ALL_SEARCHES)
 }
 
 /// Returns the subcommand that judges a history of a bounded queue.
@@ -190,7 +197,7 @@ fn queue_command<'a>(alloc: Global) -> Made<'a>
             "Judges whether the history of a queue of four numbers on standard input has a linearization",
         )
         .after_help("Example:\n  echo '1 0 5 enqueue 3 -> true' | judge queue");
-    add_searching_options(alloc, Ok(command))
+    add_searching_options(alloc, Ok(command), ALL_SEARCHES)
 }
 
 /// Returns the program before its subcommands are added.
