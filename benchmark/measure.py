@@ -303,8 +303,8 @@ def heading(plan, load):
         f"medians, with {estimates.SURE} % confidence intervals (bootstrap). All programs had the "
         f"same tasks, in all clients together as many for each number of clients: those that take {OURS} about "
         f"{plan.seconds:g} seconds by {named(plan.clients[0])}. Their runs were interleaved. Each client draws its tasks within the time{but}. "
-        f"{tries}. Attempts a task are medians, for each number of clients. The history of a "
-        "short run of each program was judged legal"
+        f"{tries}. Attempts a task are medians, for each number of clients.", "",
+        "The history of a short run of each program was judged legal"
         f"{' and whole' if plan.judge.knows_work else ''} for each cell; the times of tasks are of that run, in "
         "which calls are recorded. Raw numbers: `measured.csv`.", "",
         "Not measured: more than the processors above, hardware transactions where they are not named, and "
@@ -432,7 +432,7 @@ def readme_lines(plan, found):
     counts = ", ".join(map(str, plan.clients))
     lines = [f"![completed tasks a second over clients: {title_of(name, options)}](docs/measured-{name}.svg)", "",
              f"Completed tasks a second, as a ratio to the same TL2 in C++ without a proof, by {counts} clients, with "
-             f"{estimates.SURE} % confidence intervals (bootstrap):", "",
+             f"bootstrap intervals of {estimates.SURE} of a hundred:", "",
              "| Setting | TL2 in C++ | TL2 in C++, sequentially consistent |", "|---|---|---|"]
     for name, options in plan.settings.items():
         cells = [", ".join(ratio_cell(found[name, clients][OURS], found[name, clients][beside])
