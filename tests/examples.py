@@ -3,8 +3,7 @@
 a page of which the first line begins with '$ ': each such line is a command for bash, and the lines behind it are what
 it writes. In a command './vacation' is the program, a file that is built already: the argument, or with none the one
 that the repository's last build left; './judge' is that beside it, and './explain', './convert' and the files of docs,
-include, share and benchmark are there, too. So is 'kv_judge', if it is built in its crate beside that of the program.
-Examples of what this machine does not have are skipped: that judge, or compilers of C and C++."""
+include, share and benchmark are there, too. Examples that need compilers of C and C++ are skipped if there are none."""
 
 import os
 import shutil
@@ -20,7 +19,6 @@ PAGES = ["README.md", "docs/USING.md", "docs/RULES.md", "docs/CHECK-STM.md", "do
 # How long a command may take, in seconds: one builds a peer, others run a database.
 PATIENCE = 300
 FENCE = "```"
-KEYS = "kv_judge"
 PROMPT = "$ "
 
 
@@ -62,30 +60,23 @@ def run(command, folder):
     ended = subprocess.run(
         ["bash", "-c", command], cwd=folder, stdin=subprocess.DEVNULL,
         stdout=subprocess.PIPE, stderr=subprocess.PIPE, timeout=PATIENCE, check=False,
-        env=os.environ | {"JUDGE": os.path.join(folder, "judge"), "KV_JUDGE": os.path.join(folder, KEYS),
-                          "PATH": f"{folder}:{os.environ['PATH']}"},
+        env=os.environ | {"JUDGE": os.path.join(folder, "judge"), "PATH": f"{folder}:{os.environ['PATH']}"},
     )
     return ended.stdout.decode("latin-1"), ended.stderr.decode("latin-1")
 
 
-def missing(command, has_keys):
-    """What a command needs and this machine does not have, or nothing."""
-    if not has_keys and (KEYS in command or "--judge" in command):
-        return KEYS
+def can_run(command):
+    """Whether this machine has the compilers that a command needs."""
     has_compilers = shutil.which("cc") and (shutil.which("g++") or shutil.which("c++"))
-    if not has_compilers and any(word in command for word in ("benchmark/build", "cc -", "built/")):
-        return "a C++ compiler"
-    return ""
+    return has_compilers or not any(word in command for word in ("benchmark/build", "cc -", "built/"))
 
 
 def main():
-    program, judge, keys = built.vacation(), built.judge(), built.other(KEYS)
+    program, judge = built.vacation(), built.judge()
     for name, path in (("vacation", program), ("judge", judge)):
         if not os.access(path, os.X_OK):
             sys.exit(f"examples: there is no program at {path}: './{name}' builds it")
-    has_keys = os.access(keys, os.X_OK)
-    played = failed = 0
-    skipped = []
+    played = failed = skipped = 0
     with tempfile.TemporaryDirectory() as folder:
         os.symlink(os.path.realpath(program), os.path.join(folder, "vacation"))
         os.symlink(os.path.realpath(judge), os.path.join(folder, "judge"))
@@ -94,15 +85,13 @@ def main():
         # (a copy, since its scripts look for the programs above their own folder)
         shutil.copytree(os.path.join(ROOT, "benchmark"), os.path.join(folder, "benchmark"),
                         ignore=shutil.ignore_patterns("out", "__pycache__"))
-        if has_keys:
-            os.symlink(os.path.realpath(keys), os.path.join(folder, KEYS))
         for page in PAGES:
             found = examples(os.path.join(ROOT, page))
             if not found:
                 sys.exit(f"examples: there are no examples in {page}")
             for number, command, wanted in found:
-                if lack := missing(command, has_keys):
-                    skipped.append(lack)
+                if not can_run(command):
+                    skipped += 1
                     continue
                 played += 1
                 written, told = run(command, folder)
@@ -110,7 +99,7 @@ def main():
                     failed += 1
                     print(f"examples: {page}, line {number}: {command}", file=sys.stderr)
                     print(f"wanted:\n{wanted}written:\n{written}standard error:\n{told}", file=sys.stderr)
-    rest = f", {len(skipped)} skipped: there is no {' and no '.join(sorted(set(skipped)))}" if skipped else ""
+    rest = f", {skipped} skipped: there is no compiler of C and C++" if skipped else ""
     print(f"examples: {played - failed} of {played} examples write what their pages say{rest}")
     return 1 if failed else 0
 
