@@ -1,4 +1,5 @@
 //! Attempts whose logs cannot grow.
+ghost use Rattle.std.specs.Prelude.{◌<◌};
 
 use crate::same::{close, same, version};
 use linked_list_allocator::LocalHeap;
@@ -79,6 +80,14 @@ fn a_refused_read_leaves_the_attempt(rt: HostRuntime) -> Result<(), Fail> {
     Ok(())
 }
 
+/// Returns one of 200 words, counted from the first one on or from the last one down.
+fn nth_of_200(i: u32, is_down: bool) -> Addr
+    requires { i < 200 }
+    ensures { result.0 < 200 }
+{
+    if is_down { Addr(199 - i) } else { Addr(i) }
+}
+
 /// Writes up to 200 words, from the first one on or from the last one down, in an attempt whose
 /// logs take their memory from `logs_in`. Returns the number written, the refusal that followed,
 /// and the result of the commit.
@@ -92,8 +101,7 @@ fn write_in<A: Allocator + Copy>(
     let mut attempt = Attempt::begin(&region, &mut client, &mut logs);
     let mut ended = (0, None);
     for i in 0..200 {
-        let addr = if is_down { 199 - i } else { i };
-        if let Err(refused) = attempt.write(Addr(addr), 1) {
+        if let Err(refused) = attempt.write(nth_of_200(i, is_down), 1) {
             ended.1 = Some(refused);
             break;
         }
