@@ -26,8 +26,8 @@ fn spans_of<O: Drop>(alloc: Global, lines: &[Line<O>]) -> Result<Vec<Span>, Allo
     Ok(spans)
 }
 
-/// Returns a time that is no later than another one, nor than the BEGIN of a call if the call ends
-/// when another one begins, or later.
+/// Returns the horizon after one more call: the earlier of the horizon so far and BEGIN of the
+/// call, if the call ends at `begin` or later.
 fn nearer(horizon: u64, begin: u64, span: &Span) -> u64
     ensures less { result ≤ horizon }
     ensures reaches { begin ≤ span.now.end → result ≤ span.now.begin }
@@ -39,8 +39,8 @@ fn nearer(horizon: u64, begin: u64, span: &Span) -> u64
     }
 }
 
-/// Returns the horizon of a call that begins at a time: the least BEGIN of the calls that end then
-/// or later, or a later time. Goes through all calls.
+/// Returns the horizon of a call with this BEGIN: the least BEGIN of the calls that end then or
+/// later. Goes through all calls.
 fn horizon_of(spans: &[Span], begin: u64) -> u64
     ensures { IsHorizon spans.now begin result }
 {
@@ -84,6 +84,9 @@ fn commit_line<O: Drop>(
 
 /// Returns the commits of the calls of lines, each with its horizon. The time that this takes
 /// grows with the square of the number of calls.
+///
+/// Not said: that no later horizons hold. With earlier ones fewer versions are forgotten, and a
+/// search takes longer.
 pub fn commits_of<O: Drop>(
     alloc: Global,
     lines: Vec<Line<O>>,

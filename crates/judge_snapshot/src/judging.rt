@@ -35,7 +35,7 @@ pub fn judge_snapshots<M: WriteSetObject + Drop, P: Watcher>(
 ) -> Result<SnapshotVerdict, AllocError>
     requires whole { IsWhole (calls_of lines.items) }
     ensures { IfOk result (λ verdict.
-        IsVerdictOn M.rules M.write_sets first (calls_of lines.items) verdict) }
+        IsVerdictOn M.rules M.write_sets first (calls_of lines.items) steps verdict) }
 {
     let commits = commits_of(alloc, lines)?;
     let calls = Calls::new(alloc, commits)?;
