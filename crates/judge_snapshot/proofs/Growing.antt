@@ -1,6 +1,6 @@
 -- The version histories after a commit are those that some choice of a snapshot allows.
-use Rattle.std.proofs.Common.{◌≡◌, ◌⊎◌, ℕ, ◌<◌, ◌≤◌, ◌&&◌, ◌||◌, suc, zero, Bool, true, false, cond, List, [], ◌∷◌}
-use Rattle.std.proofs.Common.{length, refl, sym, ap, ◌∙◌, subst, inl, inr, arith, take}
+use Rattle.std.proofs.Common.{◌≡◌, ◌⊎◌, ℕ, ◌<◌, ◌≤◌, ◌&&◌, suc, zero, Bool, true, false, cond, List, [], ◌∷◌}
+use Rattle.std.proofs.Common.{length, refl, sym, ap, ◌∙◌, subst, inl, inr, arith, take, drop, get_or}
 use Rattle.std.specs.Prelude.{nat_le, not}
 use Rattle.std.specs.List.{list_any}
 use Rattle.std.proofs.lemmas.Bool.{cases_lt}
@@ -9,11 +9,12 @@ use Rattle.judge_object.specs.Rules.{Rules, is_right}
 use Rattle.judge_object.specs.Call.{Call, span_of}
 use Rattle.judge_search.proofs.Right.{answer_of, of_answer}
 use Rattle.judge_snapshot.specs.WriteSets.{WriteSets, AreWriteSets}
-use Rattle.judge_snapshot.specs.Snapshots.{Transaction, Version, snapshot, written, state_of}
+use Rattle.judge_snapshot.specs.Snapshots.{Transaction, snapshot, written, state_of}
 use Rattle.judge_snapshot.specs.Snapshots.{MayCommit}
 use Rattle.judge_snapshot.specs.Possible.{Past, can_commit, grown, longer, repeats, all_longer}
 use Rattle.judge_snapshot.proofs.Tests.{In, false_true, both, and_of, not_true, true_not, by_test, test_of, either_true}
 use Rattle.judge_snapshot.proofs.Tests.{each_of, of_each}
+use Rattle.judge_snapshot.proofs.Places.{drop_at}
 
 module _ {S O R W : Type 0} (X : Rules S O R) (V : WriteSets S O W) (needs : Span → Span → Bool) where
   pub may_of : (past : Past S W) (t : Transaction O) → can_commit X V needs past t ≡ true →
@@ -206,3 +207,13 @@ module _ {S O R W : Type 0} (X : Rules S O R) (V : WriteSets S O W) (needs : Spa
     all_in (other ∷ pasts) past t (inr h) l e =
         stays other t.call (suc (length other.versions)) (all_longer X V needs pasts t.call) (grown X V needs past t)
         (all_in pasts past t h l e)
+
+  -- the version histories from a position on
+  pub all_at : (pasts : List (Past S W)) (i : ℕ) (x : Past S W) (call : Call O) (others : List (Past S W)) →
+      i < length pasts → x ≡ get_or pasts i x → others ≡ all_longer X V needs (drop (suc i) pasts) call →
+      longer X V needs x call (suc (length x.versions)) others ≡ all_longer X V needs (drop i pasts) call
+  all_at pasts i x call others l e f =
+      ap (longer X V needs x call (suc (length x.versions))) f
+      ∙ ap (λ (p : Past S W). longer X V needs p call (suc (length p.versions))
+      (all_longer X V needs (drop (suc i) pasts) call)) e
+      ∙ sym (ap (λ ps. all_longer X V needs ps call) (drop_at pasts i x l))

@@ -1,5 +1,5 @@
 -- Which levels of isolation imply which.
-use Rattle.std.proofs.Common.{◌≡◌, ℕ, ◌==◌, ◌||◌, Bool, true, false, List, [], ◌∷◌, ◌++◌, map, refl, sym, ap, ◌∙◌}
+use Rattle.std.proofs.Common.{◌≡◌, ◌==◌, ◌||◌, Bool, true, false, List, [], ◌∷◌, ◌++◌, refl, sym, ap}
 use Rattle.std.proofs.Common.{subst, arith, take}
 use Rattle.std.specs.Prelude.{nat_lt}
 use Rattle.judge_object.specs.declared.span.Span.{Span}

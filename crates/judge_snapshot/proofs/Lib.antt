@@ -15,3 +15,9 @@ pub mod LongFork
 pub mod Separations
 pub mod Parts
 pub mod PartHistories
+pub mod Places
+pub mod Whole
+pub mod Verdicts
+pub mod Transfer
+pub mod Zipping
+pub mod Relaxing

@@ -13,8 +13,8 @@ use Rattle.judge_search.proofs.Each.{Each as Every}
 use Rattle.judge_search.specs.Walk.{InTurn}
 use Rattle.judge_search.proofs.Places.{Precedes, times_of, turns_of, precedence_of, in_turn_from, precedes_from}
 use Rattle.judge_snapshot.specs.WriteSets.{WriteSets}
-use Rattle.judge_snapshot.specs.Snapshots.{calls_of, strong_needs, IsStrongSnapshotIsolated}
-use Rattle.judge_snapshot.specs.Parts.{IsPart, KeepsSpans, PartsAreIsolated}
+use Rattle.judge_snapshot.specs.Snapshots.{calls_of, strong_needs}
+use Rattle.judge_snapshot.specs.Parts.{PartsAreIsolated}
 use Rattle.judge_snapshot.proofs.Parts.{parts_may_commit}
 
 module _ {O O' : Type 0} (part : Call O → Option (Call O'))

@@ -7,9 +7,9 @@ use Rattle.judge_object.specs.declared.span.Span.{Span}
 use Rattle.judge_object.specs.Rules.{Rules, IsAnswerOf}
 use Rattle.judge_object.specs.Call.{Call, span_of}
 use Rattle.judge_snapshot.specs.WriteSets.{WriteSets}
-use Rattle.judge_snapshot.specs.Snapshots.{Transaction, Version, Each, calls_of, MayCommit, MayCommitAll, state_of}
+use Rattle.judge_snapshot.specs.Snapshots.{Transaction, Version, Each, calls_of, MayCommitAll, state_of}
 use Rattle.judge_snapshot.specs.Snapshots.{snapshot, written, version}
-use Rattle.judge_snapshot.specs.Parts.{installed, Reaches, Answers, IsPart, PartsCommit, PartsMayCommit}
+use Rattle.judge_snapshot.specs.Parts.{installed, Reaches, Answers, IsPart, PartsMayCommit}
 
 module _ {S O R W S' O' R' W' : Type 0} (X : Rules S O R) (V : WriteSets S O W) (X' : Rules S' O' R')
     (V' : WriteSets S' O' W') (state : S → S') (part : Call O → Option (Call O'))

@@ -1,5 +1,5 @@
 -- A commit is made if and only if some choice of snapshots allows it.
-use Rattle.std.proofs.Common.{◌≡◌, ℕ, Bool, List, [], ◌∷◌, map, Some, None, refl, sym, ap, subst, inl, arith}
+use Rattle.std.proofs.Common.{◌≡◌, ℕ, Bool, List, [], ◌∷◌, map, Some, refl, sym, ap, subst, inl, arith}
 use Rattle.std.specs.Prelude.{codes, get_or}
 use Rattle.judge_object.specs.declared.span.Span.{Span}
 use Rattle.judge_object.specs.Rules.{Rules, IsAnswerOf}

@@ -1,5 +1,5 @@
 -- Each level of snapshot isolation is a level of consistency of commits.
-use Rattle.std.proofs.Common.{◌≡◌, List, [], ◌∷◌, ◌++◌, map, refl, sym, ap, ◌∙◌, subst, inl, inr}
+use Rattle.std.proofs.Common.{◌≡◌, List, [], ◌∷◌, map, refl, sym, subst, inl, inr}
 use Rattle.std.proofs.Common.{Bool}
 use Rattle.judge_object.specs.declared.span.Span.{Span}
 use Rattle.judge_object.specs.Rules.{Rules}

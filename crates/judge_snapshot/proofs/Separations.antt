@@ -1,7 +1,7 @@
 -- If the table of implications does not say that a level implies another one, a history separates them.
 use Rattle.std.proofs.Common.{◌≡◌, true, false, List, refl, sym}
 use Rattle.judge_object.specs.Call.{Call}
-use Rattle.judge_snapshot.specs.WriteSets.{WriteSets, AreWriteSets}
+use Rattle.judge_snapshot.specs.WriteSets.{AreWriteSets}
 use Rattle.judge_snapshot.specs.Registers.{Registers, registers, register_writes}
 use Rattle.judge_snapshot.specs.Examples.{write_skew, stale_read, unseen_write}
 use Rattle.judge_snapshot.specs.Hierarchy.{StrictSerializable, StrongSnapshot, SessionSnapshot, Snapshot, Sequential}
@@ -12,7 +12,7 @@ use Rattle.judge_snapshot.proofs.Hierarchy.{implied_levels_hold}
 use Rattle.judge_snapshot.proofs.TwoCalls.{write_skew_is_isolated, stale_read_is_not_strong}
 use Rattle.judge_snapshot.proofs.TwoCalls.{unseen_write_is_not_session}
 
-register_laws : AreWriteSets registers register_writes
+pub register_laws : AreWriteSets registers register_writes
 register_laws = record { own = λ s start calls op. refl; equal = λ v w e. absurd (false_true e) }
 
 abbrev Is : Level → List (Call Registers) → Type 0

@@ -1,26 +1,25 @@
 -- A history is strong snapshot isolated if and only if its commits are linearizable with fewer versions.
 use Rattle.std.proofs.Common.{◌≡◌, ℕ, ◌<◌, ◌≤◌, suc, zero, false, List, [], ◌∷◌, ◌++◌, map, Some, None, refl, sym, ap}
 use Rattle.std.proofs.Common.{◌∙◌, subst, inl, inr}
-use Rattle.std.specs.Prelude.{slice_get}
 use Rattle.std.proofs.lemmas.List.{map-append}
 use Rattle.judge_object.specs.Rules.{Rules}
 use Rattle.judge_object.specs.Call.{Call, EachCall, is_completed}
 use Rattle.judge_object.specs.Linear.{IsCallAt, CallsTakeTime, CallsAreSequential, CallsKeepPrecedence}
 use Rattle.judge_object.specs.Linear.{GiveReplies}
-use Rattle.judge_object.specs.Orders.{of_client, IsMerge, IsOrderOf, IsLinearizable}
+use Rattle.judge_object.specs.Orders.{IsMerge, IsOrderOf, IsLinearizable}
 use Rattle.judge_object.proofs.Merges.{parted}
 use Rattle.judge_search.proofs.Clients.{each_order}
 use Rattle.judge_search.proofs.Places.{Precedes, precedes_from}
 use Rattle.judge_search.proofs.Each.{Each as Every}
 use Rattle.judge_snapshot.specs.WriteSets.{WriteSets, AreWriteSets}
-use Rattle.judge_snapshot.specs.Snapshots.{Transaction, Each, calls_of, MayCommitAll, strong_needs}
+use Rattle.judge_snapshot.specs.Snapshots.{Each, calls_of}
 use Rattle.judge_snapshot.specs.Snapshots.{IsStrongSnapshotIsolated}
 use Rattle.judge_snapshot.specs.Possible.{Past, past_of}
 use Rattle.judge_snapshot.specs.Trimmed.{Claim, claim_call, calls_in, IsInHorizon, HorizonsHold, trimmed}
 use Rattle.judge_snapshot.specs.Trimmed.{StrongIsTrimmed}
 use Rattle.judge_snapshot.proofs.Tests.{In}
 use Rattle.judge_snapshot.proofs.Keeping.{Keeps}
-use Rattle.judge_snapshot.proofs.Trimming.{InHorizons, Choice, chosen, replies}
+use Rattle.judge_snapshot.proofs.Trimming.{InHorizons, chosen, replies}
 use Rattle.judge_snapshot.proofs.Lifted.{given, merge_map}
 
 none_some : {X : Type 0} (x : X) → None ≡ Some x → ⊥

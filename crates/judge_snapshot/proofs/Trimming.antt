@@ -1,6 +1,6 @@
 -- Versions that no later call can have as its snapshot may be forgotten.
 use Rattle.std.proofs.Common.{◌≡◌, ℕ, ◌<◌, ◌≤◌, ◌==◌, ◌||◌, Bool, true, false, List, [], ◌∷◌, ◌++◌}
-use Rattle.std.proofs.Common.{length, map, Some, None, refl, sym, ap, ◌∙◌, subst, inl, inr, arith, take, drop}
+use Rattle.std.proofs.Common.{length, map, Some, refl, sym, ap, ◌∙◌, subst, inl, inr, arith, take, drop}
 use Rattle.std.specs.Prelude.{nat_lt, codes, ⊤}
 use Rattle.std.proofs.lemmas.Bool.{cases_lt}
 use Rattle.judge_object.specs.declared.span.Span.{Span}

@@ -1,22 +1,21 @@
 -- Histories of two transactions over registers.
-use Rattle.std.proofs.Common.{◌≡◌, ◌≤◌, ◌<◌, ℕ, suc, zero, Bool, true, false, List, [], ◌∷◌, ◌++◌, refl, sym, ap, ◌∙◌}
+use Rattle.std.proofs.Common.{◌≡◌, ◌≤◌, ◌<◌, ℕ, suc, zero, Bool, List, [], ◌∷◌, ◌++◌, refl, sym, ap}
 use Rattle.std.proofs.Common.{subst}
 use Rattle.std.proofs.Common.{arith}
-use Rattle.std.specs.Prelude.{codes, get_or, ⊤}
+use Rattle.std.specs.Prelude.{codes, get_or}
 use Rattle.std.proofs.lemmas.List.Sorted.{IsPermutation-middle}
 use Rattle.judge_object.specs.declared.span.Span.{Span}
-use Rattle.judge_object.specs.Call.{Call, is_completed}
+use Rattle.judge_object.specs.Call.{Call}
 use Rattle.judge_object.specs.Linear.{GiveReplies, CallsAreSequential, CallsKeepPrecedence}
 use Rattle.judge_object.specs.Orders.{of_client}
-use Rattle.judge_object.specs.Levels.{IsSequentiallyConsistent, IsSerializable}
 use Rattle.judge_object.proofs.Merges.{cons_same, merge_moves}
 use Rattle.judge_search.specs.Walk.{InTurn}
 use Rattle.judge_search.proofs.Places.{Precedes, times_of, turns_of, precedence_of}
 use Rattle.judge_snapshot.specs.Snapshots.{Transaction, calls_of, MayCommit, MayCommitAll, version}
 use Rattle.judge_snapshot.specs.Snapshots.{plain_needs, session_needs, strong_needs}
-use Rattle.judge_snapshot.specs.Snapshots.{IsStrongSnapshotIsolated, IsSessionSnapshotIsolated}
+use Rattle.judge_snapshot.specs.Snapshots.{IsStrongSnapshotIsolated}
 use Rattle.judge_snapshot.specs.Registers.{Registers, registers, register_writes}
-use Rattle.judge_snapshot.specs.Examples.{skew_x, skew_y, write_skew, update_1, update_2, lost_update}
+use Rattle.judge_snapshot.specs.Examples.{skew_x, skew_y, write_skew, update_1, update_2}
 use Rattle.judge_snapshot.specs.Examples.{set_before, sees_stale, stale_read, own_set, own_unseen, unseen_write}
 use Rattle.judge_snapshot.specs.Examples.{WriteSkewIsIsolated, LostUpdateIsNotIsolated, StaleReadIsNotStrong}
 use Rattle.judge_snapshot.specs.Examples.{UnseenWriteIsNotSession}

@@ -1,6 +1,6 @@
 -- The anomalies of isolation, as histories worked out by hand over two registers that start with
 -- 0.
-use Rattle.std.specs.Prelude.{◌≡◌, ℕ, Bool, true, false, Option, Some, None, List, [], ◌∷◌, codes}
+use Rattle.std.specs.Prelude.{ℕ, true, false, Option, Some, None, List, [], ◌∷◌, codes}
 use Rattle.judge_object.specs.Call.{Call}
 use Rattle.judge_object.specs.Levels.{IsSequentiallyConsistent, IsSerializable}
 use Rattle.judge_snapshot.specs.Registers.{Registers, registers, register_writes}

@@ -8,3 +8,6 @@ pub mod Registers
 pub mod Examples
 pub mod Separations
 pub mod Parts
+pub mod Horizons
+pub mod Judging
+pub mod Levels

@@ -1,6 +1,6 @@
 -- Parts of snapshot isolated histories. A part is a history of another object, such as one key of
 -- a store: it has for each call the part of the call that concerns that object, if there is one.
-use Rattle.std.specs.Prelude.{◌≡◌, ⊤, Bool, false, Option, Some, None, List, [], ◌∷◌, filter_map}
+use Rattle.std.specs.Prelude.{◌≡◌, Bool, false, Option, Some, None, List, [], ◌∷◌, filter_map}
 use Rattle.judge_object.specs.declared.span.Span.{Span}
 use Rattle.judge_object.specs.Rules.{Rules, IsAnswerOf}
 use Rattle.judge_object.specs.Call.{Call, span_of}
@@ -19,8 +19,8 @@ module _ {S O W : Type 0} (V : WriteSets S O W) where
     pub apart : Each (λ v. V.conflicts v w ≡ false) sets
     pub is : to ≡ installed from sets
 
-module _ {S O R W S' O' R' W' : Type 0} (X : Rules S O R) (V : WriteSets S O W) (X' : Rules S' O' R')
-    (V' : WriteSets S' O' W') where
+module _ {S O R W S' O' R' W' : Type 0} (X : Rules S O R) (V : WriteSets S O W)
+    (X' : Rules S' O' R') (V' : WriteSets S' O' W') where
   -- a call gives its reply in a state
   abbrev pub Answers : S → Call O → Type 0
   Answers s call = IsAnswerOf X (X.run s call.op).1 call.reply

@@ -1,9 +1,11 @@
 -- Commits as operations of a derived sequential object. A history is snapshot isolated if its
 -- commits are linearizable. A state of this object is the list of the version histories that are
 -- possible: each of them is what some choice of snapshots gives for the commits so far.
-use Rattle.std.specs.Prelude.{◌&&◌, ◌||◌, false, ℕ, suc, zero, Bool, Some, None, List, [], ◌∷◌, length, map, take, not, nat_le, codes, if◌then◌else◌}
+use Rattle.std.specs.Prelude.{◌&&◌, ◌||◌, false, ℕ, suc, zero, Bool, Some, None, List, [], ◌∷◌, length, take, not, nat_le, codes, if◌then◌else◌}
 use Rattle.std.specs.List.{list_any}
 use Rattle.judge_object.specs.declared.span.Span.{Span}
+use Rattle.judge_snapshot.specs.declared.outcome.Outcome.{Outcome}
+use Rattle.judge_snapshot.specs.declared.outcome.Outcome.TheVariants.{Committed, Refused}
 use Rattle.judge_object.specs.Rules.{Rules, is_right}
 use Rattle.judge_object.specs.Call.{Call, span_of}
 use Rattle.judge_snapshot.specs.WriteSets.{WriteSets}
@@ -13,11 +15,6 @@ use Rattle.judge_snapshot.specs.Snapshots.{Transaction, Version, snapshot, writt
 pub record Past (S W : Type 0) : Type 0 where
   pub first : S
   pub versions : List (Version S W)
-
--- the reply of a commit: it was made, or no choice of snapshots allows it
-pub data Outcome : Type 0 where
-  Committed : Outcome
-  Refused : Outcome
 
 -- the version history before the first commit
 abbrev pub past_of : {S W : Type 0} → S → Past S W
@@ -66,14 +63,18 @@ module _ {S O R W : Type 0} (X : Rules S O R) (V : WriteSets S O W)
       (written X V past.first past.versions (record { call = call; missed = n }))
       || repeats past call n m
 
-  -- the version histories after a commit that misses fewer than so many versions, before others.
-  -- The same write set counts once
+  -- version histories with the one after a commit that misses so many versions, if it may be made
+  -- and no commit that misses fewer has the same write set
+  abbrev pub with_commit : Past S W → Call O → ℕ → List (Past S W) → List (Past S W)
+  with_commit past call n others =
+      if can_commit past (record { call = call; missed = n }) && not (repeats past call n n)
+      then grown past (record { call = call; missed = n }) ∷ others
+      else others
+
+  -- version histories with those after a commit that misses fewer than so many versions
   abbrev pub longer : Past S W → Call O → ℕ → List (Past S W) → List (Past S W)
   longer past call zero others = others
-  longer past call (suc n) others =
-      if can_commit past (record { call = call; missed = n }) && not (repeats past call n n)
-      then grown past (record { call = call; missed = n }) ∷ longer past call n others
-      else longer past call n others
+  longer past call (suc n) others = with_commit past call n (longer past call n others)
 
   -- the version histories after a commit, from any of these on
   abbrev pub all_longer : List (Past S W) → Call O → List (Past S W)

@@ -1,5 +1,5 @@
 -- Two registers that hold numbers: the object of the worked examples.
-use Rattle.std.specs.Prelude.{◌≡◌, ◌==◌, ℕ, Bool, true, false, Option, Some, None, List, codes, if◌then◌else◌}
+use Rattle.std.specs.Prelude.{◌==◌, ℕ, Bool, true, false, Option, Some, None, List, codes, if◌then◌else◌}
 use Rattle.judge_object.specs.Rules.{Rules}
 use Rattle.judge_snapshot.specs.WriteSets.{WriteSets}
 

@@ -1,13 +1,14 @@
 -- Commits as operations of a derived object that forgets the versions that no later call can have
 -- as its snapshot. Without this, no two branches of a search meet. Each commit names a time, its
 -- horizon: all calls that may come after it in an order begin at the horizon or later.
-use Rattle.std.specs.Prelude.{◌≤◌, ◌↔◌, ⊤, ℕ, Some, None, List, [], ◌∷◌, map, nat_lt, codes, if◌then◌else◌}
+use Rattle.std.specs.Prelude.{◌≤◌, ◌↔◌, ℕ, Some, None, List, [], ◌∷◌, map, nat_lt, codes, if◌then◌else◌}
 use Rattle.judge_object.specs.Rules.{Rules}
 use Rattle.judge_object.specs.Call.{Call}
 use Rattle.judge_object.specs.Orders.{IsLinearizable}
 use Rattle.judge_snapshot.specs.WriteSets.{WriteSets}
 use Rattle.judge_snapshot.specs.Snapshots.{Version, Each, strong_needs, IsStrongSnapshotIsolated}
-use Rattle.judge_snapshot.specs.Possible.{Past, Outcome, past_of, outcome_text, all_longer, answered}
+use Rattle.judge_snapshot.specs.declared.outcome.Outcome.{Outcome}
+use Rattle.judge_snapshot.specs.Possible.{Past, past_of, outcome_text, all_longer, answered}
 
 -- the commit of a call with its horizon
 pub record Claim (O : Type 0) : Type 0 where

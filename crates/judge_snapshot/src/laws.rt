@@ -2,6 +2,7 @@
 
 ghost use Rattle.judge_snapshot.specs.Laws.{StrongIsLinearizable, SessionIsSequential, SnapshotIsSerializable};
 ghost use Rattle.judge_snapshot.specs.Trimmed.{StrongIsTrimmed};
+ghost use Rattle.judge_snapshot.specs.Levels.{LevelIsStrongWithoutOrder};
 ghost use Rattle.judge_snapshot.specs.Hierarchy.{ImpliedLevelsHold};
 ghost use Rattle.judge_snapshot.specs.Parts.{PartsMayCommit, PartsAreIsolated};
 
@@ -27,6 +28,13 @@ pub fn snapshot_isolation_is_serializability_of_commits<M: WriteSetObject>()
 /// by the rules that forget the versions that no later call can have as its snapshot.
 pub fn forgotten_versions_are_no_snapshots<M: WriteSetObject>()
     ensures { StrongIsTrimmed M.rules M.write_sets }
+{}
+
+/// States that a history is snapshot isolated at a level if and only if it is strong snapshot
+/// isolated once the order is taken from its calls that the level does not keep. So a judge of
+/// strong snapshot isolation decides each level.
+pub fn a_level_is_strong_isolation_without_its_order<M: WriteSetObject>()
+    ensures { LevelIsStrongWithoutOrder M.rules M.write_sets }
 {}
 
 /// States that a history at a level of isolation is at each level that the table of implications
