@@ -2,7 +2,7 @@
 """Draws small histories of a key-value store, writes them in each foreign format, some of them damaged, and
 compares what `convert` makes of them with what was drawn: the verdict of a search that tries every order, and the
 lines that faults and verdicts name. Mistakes that are put into the conversion on purpose must be found. The program
-kv_judge judges some of the histories. The argument is the program vacation, beside whose crate that of kv_judge
+judge judges some of the histories. The argument is the program vacation, beside whose crate that of judge
 stands; with none it is the one that the last build left."""
 
 import base64
@@ -571,9 +571,9 @@ def main():
     """Status 0: all is alike, and each mistake is found."""
     vacation = sys.argv[1] if len(sys.argv) > 1 else f"{ROOT}/crates/vacation/out/vacation"
     crates = os.path.dirname(os.path.dirname(os.path.dirname(os.path.abspath(vacation))))
-    program = f"{crates}/kv_judge/out/kv_judge"
+    program = f"{crates}/judge/out/judge"
     if not os.access(program, os.X_OK):
-        print(f"convert: {program} is missing: build kv_judge first")
+        print(f"convert: {program} is missing: build judge first")
         return 1
     told = []
     for name in [*FORMATS, "sets", "lists"]:

@@ -291,7 +291,7 @@ def run_here(program, folder, **plan):
     (folder / "templates").mkdir(exist_ok=True)
     place = Path(tempfile.mkdtemp(dir=folder)) / "run"
     (place.parent / "templates").mkdir()
-    return runs.run(one, Programs(str(program), built.judge(program), ""), place, Quiet())
+    return runs.run(one, Programs(str(program), built.judge(program)), place, Quiet())
 
 
 @contextmanager
@@ -332,14 +332,9 @@ def holds_errors(program, folder):
     want(any("not callable" in note for note in failed.record["notes"]), "its record")
 
 
-def judge_of_keys(program):
-    """Returns the program kv_judge, whose crate stands beside that of the program."""
-    return Path(built.other("kv_judge", program))
-
-
 def harness(program, folder, *options, wanted=(0,)):
     """Runs the harness and returns its lines."""
-    words = [RUN, "--program", program, "--judge", built.judge(program), "--kv-judge", judge_of_keys(program), *options]
+    words = [RUN, "--program", program, "--judge", built.judge(program), *options]
     done = subprocess.run(words, text=True, capture_output=True, check=False,
                           env=os.environ | {"TMPDIR": str(folder)}, timeout=PATIENCE)
     want(done.returncode in wanted, f"{options}: status {done.returncode}:\n{done.stdout}{done.stderr[-2000:]}")
@@ -603,12 +598,8 @@ def main():
             holds_errors(program, folder)
             is_long = bool(os.environ.get("VACATION_ALL_FAULTS"))
             running, times = (RUNNING, ENDED_OFTEN) if is_long else (RUNNING[-2:], 1)
-            legal, planted = LEGAL, PLANTED + (MORE_PLANTED if is_long else [])
-            if os.access(judge_of_keys(program), os.X_OK):
-                legal = legal + LEGAL_KEYS
-                planted = planted + PLANTED_KEYS + (MORE_PLANTED_KEYS if is_long else [])
-            else:
-                print(f"databases: the workload 'keys' is skipped: no program {judge_of_keys(program)}")
+            legal, planted = LEGAL + LEGAL_KEYS, PLANTED + PLANTED_KEYS
+            planted = planted + (MORE_PLANTED + MORE_PLANTED_KEYS if is_long else [])
             at_once([*((holds_ended, program, folder, running, number, times) for number in ENDING),
                      *((holds_legal, program, folder, *case) for case in legal),
                      *((holds_planted, program, folder, options) for options in planted)])

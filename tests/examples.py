@@ -3,8 +3,8 @@
 a page of which the first line begins with '$ ': each such line is a command for bash, and the lines behind it are what
 it writes. In a command './vacation' is the program, a file that is built already: the argument, or with none the one
 that the repository's last build left; './judge' is that beside it, and './explain', './convert' and the files of docs,
-include, share and benchmark are there, too. So is 'kv_judge', if it is built in its crate beside that of the program.
-Examples of what this machine does not have are skipped: that judge, or compilers of C and C++."""
+include, share and benchmark are there, too. Examples of what this machine does not have are skipped: compilers of C and
+C++."""
 
 import os
 import shutil
@@ -20,7 +20,6 @@ PAGES = ["README.md", "docs/USING.md", "docs/RULES.md", "docs/CHECK-STM.md", "do
 # How long a command may take, in seconds: one builds a peer, others run a database.
 PATIENCE = 300
 FENCE = "```"
-KEYS = "kv_judge"
 PROMPT = "$ "
 
 
@@ -62,16 +61,13 @@ def run(command, folder):
     ended = subprocess.run(
         ["bash", "-c", command], cwd=folder, stdin=subprocess.DEVNULL,
         stdout=subprocess.PIPE, stderr=subprocess.PIPE, timeout=PATIENCE, check=False,
-        env=os.environ | {"JUDGE": os.path.join(folder, "judge"), "KV_JUDGE": os.path.join(folder, KEYS),
-                          "PATH": f"{folder}:{os.environ['PATH']}"},
+        env=os.environ | {"JUDGE": os.path.join(folder, "judge"), "PATH": f"{folder}:{os.environ['PATH']}"},
     )
     return ended.stdout.decode("latin-1"), ended.stderr.decode("latin-1")
 
 
-def missing(command, has_keys):
+def missing(command):
     """What a command needs and this machine does not have, or nothing."""
-    if not has_keys and (KEYS in command or "--judge" in command):
-        return KEYS
     has_compilers = shutil.which("cc") and (shutil.which("g++") or shutil.which("c++"))
     if not has_compilers and any(word in command for word in ("benchmark/build", "cc -", "built/")):
         return "a C++ compiler"
@@ -79,11 +75,10 @@ def missing(command, has_keys):
 
 
 def main():
-    program, judge, keys = built.vacation(), built.judge(), built.other(KEYS)
+    program, judge = built.vacation(), built.judge()
     for name, path in (("vacation", program), ("judge", judge)):
         if not os.access(path, os.X_OK):
             sys.exit(f"examples: there is no program at {path}: './{name}' builds it")
-    has_keys = os.access(keys, os.X_OK)
     played = failed = 0
     skipped = []
     with tempfile.TemporaryDirectory() as folder:
@@ -94,14 +89,12 @@ def main():
         # (a copy, since its scripts look for the programs above their own folder)
         shutil.copytree(os.path.join(ROOT, "benchmark"), os.path.join(folder, "benchmark"),
                         ignore=shutil.ignore_patterns("out", "__pycache__"))
-        if has_keys:
-            os.symlink(os.path.realpath(keys), os.path.join(folder, KEYS))
         for page in PAGES:
             found = examples(os.path.join(ROOT, page))
             if not found:
                 sys.exit(f"examples: there are no examples in {page}")
             for number, command, wanted in found:
-                if lack := missing(command, has_keys):
+                if lack := missing(command):
                     skipped.append(lack)
                     continue
                 played += 1

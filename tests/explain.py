@@ -468,7 +468,7 @@ def holds_other_logs(program, folder):
     tasks = subprocess.run([built.vacation(), "tasks", "--tasks", "30"], capture_output=True, text=True, check=True,
                            timeout=PATIENCE).stdout
     keys = '0 10 20 put "a" "1" -> ok\n0 21 30 txn if "a" "1" if "b" - then "b" "1" -> true\n1 25 - get "a" -> ?\n'
-    for text, command in ((attempts, "'judge attempts < LOG'"), (keys, "'kv_judge < LOG'"),
+    for text, command in ((attempts, "'judge attempts < LOG'"), (keys, "'judge keys < LOG'"),
                           (tasks, "'judge history --tasks LOG < HISTORY'")):
         log.write_text(text, encoding="ascii")
         lines = explain(program, log)

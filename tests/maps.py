@@ -1,7 +1,7 @@
 #!/usr/bin/env python3
 """Builds the template share/vacation/templates/java/Maps.java by the commands at its head: histories of the library's
 lock-free map are legal, and the mistake that the template can be run with is found within twenty runs. Skipped, with a
-word, if there is no Java compiler. Its argument is the program vacation, beside whose crate that of kv_judge stands;
+word, if there is no Java compiler. Its argument is the program vacation, beside whose crate that of judge stands;
 with none it is the one that the last build left."""
 
 import os
@@ -19,19 +19,19 @@ LEGAL_RUNS, MOST_RUNS, PATIENCE = 2, 20, 300
 def verdict(program, words, folder):
     """The first line of the verdict on a run with these words."""
     ran = subprocess.run(["java", "-cp", folder, "Maps", *words], stdout=subprocess.PIPE, timeout=PATIENCE, check=True)
-    return subprocess.run([program], input=ran.stdout, stdout=subprocess.PIPE, timeout=PATIENCE,
+    return subprocess.run([program, "keys"], input=ran.stdout, stdout=subprocess.PIPE, timeout=PATIENCE,
                           check=False).stdout.decode().split("\n")[0]
 
 
 def main():
     """Status 0: the runs of the map are legal, and the mistake is found."""
     vacation = sys.argv[1] if len(sys.argv) > 1 else f"{ROOT}/crates/vacation/out/vacation"
-    program = Path(os.path.abspath(vacation)).parent.parent.parent / "kv_judge/out/kv_judge"
+    program = Path(os.path.abspath(vacation)).parent.parent.parent / "judge/out/judge"
     if not shutil.which("javac") or not shutil.which("java"):
         print("maps: skipped: there is no Java compiler")
         return 0
     if not os.access(program, os.X_OK):
-        print(f"maps: {program} is missing: build kv_judge first")
+        print(f"maps: {program} is missing: build judge first")
         return 1
     with tempfile.TemporaryDirectory() as folder:
         subprocess.run(["javac", "-d", folder, TEMPLATE], timeout=PATIENCE, check=True)

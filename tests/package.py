@@ -48,17 +48,11 @@ def contents(folder):
     return {file.name: file.read_bytes() for file in folder.iterdir()}
 
 
-def judge_of_keys(program):
-    """The judge of keys and values, whose crate stands beside that of the program, if it is built."""
-    found = built.other("kv_judge", program)
-    return [found] if os.access(found, os.X_OK) else []
-
-
 def pack(program, folder):
     """Packs twice, with other umasks, zones and folders. Returns the folder of the first."""
-    first, second, keys = folder / "first", folder / "a second one", judge_of_keys(program)
-    run("bash", "-c", 'umask 022; exec "$0" "$@"', ROOT / "dev", "package", program, built.judge(program), first, *keys)
-    run("bash", "-c", 'umask 077; exec "$0" "$@"', ROOT / "dev", "package", program, built.judge(program), second, *keys, cwd="/",
+    first, second = folder / "first", folder / "a second one"
+    run("bash", "-c", 'umask 022; exec "$0" "$@"', ROOT / "dev", "package", program, built.judge(program), first)
+    run("bash", "-c", 'umask 077; exec "$0" "$@"', ROOT / "dev", "package", program, built.judge(program), second, cwd="/",
         env={**os.environ, "TZ": "Asia/Tokyo", "LC_ALL": "C"})
     want(contents(first) == contents(second), "two runs did not give the same bytes")
     sums = dict(reversed(line.split("  ")) for line in (first / "SHA256SUMS").read_text().splitlines())
@@ -73,7 +67,7 @@ def holds_tarball(tarball):
     with tarfile.open(tarball) as tar:
         for entry in tar:
             name = entry.name.partition("/")[2]
-            is_program = entry.isdir() or name in ("vacation", "judge", "kv_judge", "explain", "convert", "benchmark/build", "benchmark/run",
+            is_program = entry.isdir() or name in ("vacation", "judge", "explain", "convert", "benchmark/build", "benchmark/run",
                                                    "benchmark/checkers/run", "benchmark/databases/run")
             modes = (0o755,) if is_program else (0o755, 0o644) if name.endswith(".py") else (0o644,)
             want((entry.uid, entry.gid, entry.uname, entry.gname) == (0, 0, "root", "root"), f"owner of {entry.name}")
@@ -144,7 +138,7 @@ def holds_proved(ours, unpacked):
     want(head[0] == title and head[1].startswith(f"commit {commit}") and head[2] == kit, "the head of PROVED")
     changes = run("git", "-c", f"safe.directory={ROOT}", "status", "--porcelain", cwd=ROOT)
     want(("not committed" in head[1]) == bool(changes), "PROVED on changes that are not committed")
-    for line, name in zip(head[3:], filter(lambda name: (unpacked / name).is_file(), ("vacation", "judge", "kv_judge"))):
+    for line, name in zip(head[3:], ("vacation", "judge")):
         sum = hashlib.sha256((unpacked / name).read_bytes()).hexdigest()
         want(line in (f"sha256 {sum}", f"sha256 {sum} {name}"), f"the sum of {name}")
     said = " ".join(text.split())
@@ -244,12 +238,9 @@ def holds_conversion(unpacked):
     words = (sys.executable, "-B", unpacked / "convert", "porcupine", unpacked / "docs/histories/events.json")
     text = run(*words)
     want(text in (unpacked / "docs/CHECK-DATA.md").read_text(encoding="utf-8") and text.count("\n") == 3, text)
-    if not (unpacked / "kv_judge").is_file():
-        skipped("kv_judge is not built")
-        return
-    verdict = run(unpacked / "kv_judge", given=text, status=None)
+    verdict = run(unpacked / "judge", "keys", given=text, status=None)
     want(verdict.startswith(("legal ", "illegal ")), verdict)
-    judged = run(*words, "--judge", status=None, env={name: text for name, text in os.environ.items() if name != "KV_JUDGE"})
+    judged = run(*words, "--judge", status=None, env={name: text for name, text in os.environ.items() if name != "JUDGE"})
     want(verdict.split()[0] in judged, judged)
 
 
@@ -286,11 +277,6 @@ def holds_manual(ours, share):
     want('CLIENT BEGIN END OPERATION "->" REPLY LF' in history, "vacation-history(5)")
     want(all(word in history for word in ('("commit" | "abort") { ("r" | "w")', "put-if-absent", "illegal places")),
          "vacation-history(5) on attempts and keys")
-    keys = share / "man/man1/kv_judge.1"
-    want(keys.exists() == (share.parent / "kv_judge").exists(), "there should be kv_judge(1) beside kv_judge alone")
-    if keys.exists():
-        text = shown(keys)
-        want(all(word in text for word in ("kv_judge [--whole] [--start FILE]", "--help", "undecided or touching")), "kv_judge(1)")
 
 
 def holds_completions(ours, share):

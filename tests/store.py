@@ -1,11 +1,11 @@
 #!/usr/bin/env python3
 """Draws 2,000 small histories of a key-value store, some with damaged lines, pending and undetermined calls and equal
-times, and compares the verdicts of the program kv_judge with those of a search that tries every order. Draws 2,000 more
+times, and compares the verdicts of 'judge keys' with those of a search that tries every order. Draws 2,000 more
 in which keys have drawn first values, some with a damaged start file, and 2,000 with transactions over several keys,
-half of them with first values, for whole stores of one or several classes of keys. Then gives it hostile input: a
-history and a start file cut at each byte, keys of all bytes, values of 1 MiB, a million keys and words, bytes that are
+half of them with first values, for whole stores of one or several classes of keys, and 3,000 at the levels below
+linearizability. Then gives it hostile input: a history and a start file cut at each byte, keys of all bytes, values of 1 MiB, a million keys and words, bytes that are
 no text, command lines that it must refuse, too little memory, an input that cannot be read, an output that cannot be
-written, more steps than there are. Its argument is the program vacation, beside whose crate that of kv_judge stands;
+written, more steps than there are. Its argument is the program vacation, beside whose crate that of judge stands;
 with none it is the one that the last build left."""
 
 import os
@@ -28,7 +28,10 @@ BYTES = [b"", b"a", b"b", b"a>b", b"->", b"-", b" ", b'"', b"%", b"\n\x00\xff", 
 # What a transaction leaves as it is.
 KEEP = object()
 # The status by the first word of a verdict, and that after a fault of a stream or of memory.
-STATUSES, STOPPED = {b"legal": 0, b"illegal": 1, b"fault": 1, b"undecided": 3, b"touching": 3}, 2
+STATUSES, STOPPED = {b"legal": 0, b"illegal": 1, b"fault": 1, b"undecided": 3, b"touching": 3}, 4
+# The status of a refused command line.
+REFUSED = 2
+LINEARIZABLE, SEQUENTIAL, SERIALIZABLE = "linearizable", "sequential", "serializable"
 # What the program may take beside the text and for each call, in bytes.
 MOST_BESIDE, MOST_EACH = 64 << 20, 512
 # What the program may take for a search among calls that overlap, in bytes.
@@ -210,6 +213,14 @@ def has_order(calls, first=None, run=key_step):
     return search(frozenset(range(len(calls))), first)
 
 
+def relaxed(level, calls):
+    """The calls without the order that a level does not keep."""
+    if level == LINEARIZABLE:
+        return calls
+    return [(client if level == SEQUENTIAL else place, 0, end if end == NEVER else 0, *rest)
+            for place, (client, _, end, *rest) in enumerate(calls)]
+
+
 def first_values_of(text):
     """The values that keys have at first by the text of a start file, or the verdict that names its first fault."""
     lines, firsts = text.split(b"\n"), {}
@@ -243,9 +254,9 @@ def objects_of(calls, together):
     return [b"" if together else names.get(key, key) for key in firsts]
 
 
-def expected_of(text, firsts, whole=False):
-    """The verdict on a text where keys have these values at first: its first line, and the calls if all lines are
-    calls."""
+def expected_of(text, firsts, whole=False, level=LINEARIZABLE):
+    """The verdict on a text at a level, where keys have these values at first: its first line, and the calls if all
+    lines are calls."""
     lines = text.split(b"\n")
     if not lines[-1]:
         lines.pop()
@@ -255,12 +266,13 @@ def expected_of(text, firsts, whole=False):
         if isinstance(call, str):
             return b"fault %s %d" % (call.encode(), place + 1), None
         calls.append(call)
-    touches = False
     for place, (client, begin, end, _, _) in enumerate(calls):
         ends = [other[2] for other in calls[:place] if other[0] == client]
         if end < begin or any(begin < other for other in ends):
             return b"illegal client %d" % (place + 1), None
-        touches = touches or begin in ends
+    clients, calls = len({call[0] for call in calls}), relaxed(level, calls)
+    touches = any(other[0] == call[0] and other[2] == call[1] for place, call in enumerate(calls)
+                  for other in calls[:place])
     objects = objects_of(calls, touches and whole)
     keys = sorted(set(objects))
     for key in keys:
@@ -270,7 +282,6 @@ def expected_of(text, firsts, whole=False):
             return b"illegal part " + quoted(key), [(*call, name) for call, name in zip(calls, objects)]
     if touches and len(keys) > 1:
         return b"touching", None
-    clients = len({call[0] for call in calls})
     return b"legal calls=%d clients=%d objects=%d" % (len(calls), clients, len(keys)), None
 
 
@@ -410,15 +421,16 @@ def status_of(verdict):
     return STATUSES[verdict.split(b"\n")[0].split(b" ")[0]]
 
 
-def is_right(program, text, start=None, whole=False):
-    """Whether the program's verdict on a text is the expected one, where the text of a start file has the values that
-    keys have at first. Returns that and the verdict."""
+def is_right(program, text, start=None, whole=False, level=LINEARIZABLE):
+    """Whether the program's verdict on a text at a level is the expected one, where the text of a start file has the
+    values that keys have at first. Returns that and the verdict."""
     firsts = {} if start is None else first_values_of(start)
-    want, calls = (firsts, None) if isinstance(firsts, bytes) else expected_of(text, firsts, whole)
+    want, calls = (firsts, None) if isinstance(firsts, bytes) else expected_of(text, firsts, whole, level)
     with tempfile.NamedTemporaryFile() as file:
         file.write(start or b"")
         file.flush()
-        words = [program, *(["--whole"] if whole else []), *([] if start is None else ["--start", file.name])]
+        words = [program, "keys", *(["--whole"] if whole else []), *([] if start is None else ["--start", file.name]),
+                 *([] if level == LINEARIZABLE else ["--level", level])]
         done = subprocess.run(words, input=text, capture_output=True, timeout=60, check=False)
     lines = done.stdout.split(b"\n")[:-1]
     if not lines or done.returncode != status_of(want):
@@ -434,7 +446,7 @@ def told_of(program, text):
     with tempfile.TemporaryFile() as given, tempfile.TemporaryFile() as out:
         given.write(text)
         given.seek(0)
-        child = subprocess.Popen([program], stdin=given, stdout=out)
+        child = subprocess.Popen([program, "keys"], stdin=given, stdout=out, stderr=subprocess.DEVNULL)
         _, status, used = os.wait4(child.pid, 0)
         child.returncode = os.waitstatus_to_exitcode(status)
         out.seek(0)
@@ -481,18 +493,19 @@ def bears_cut_starts(program):
 
 def bears_usage(program):
     """Whether command lines that the program does not know are refused, and nothing is judged then."""
-    refused = (["--begin"], ["--start"], ["--start", "/"], ["--start", f"{HERE}/none"], ["--start", __file__, "more"],
-               ["--help", "more"], ["history"], [""])
-    refused += (["--whole", "more"], ["--whole", "--start"], ["--whole", "--whole"], ["--start", __file__, "--whole"])
-    for words in refused:
-        done = subprocess.run([program, *words], input=b"0 0 1 get", capture_output=True, timeout=60, check=False)
-        # A folder is opened, and then cannot be read.
-        named = done.stdout == b"fault read\n" if words == ["--start", "/"] else done.stderr and not done.stdout
-        if done.returncode != STOPPED or not named:
+    refused = (["--begin"], ["--start"], ["--start", __file__, "more"], ["history"], [""], ["--whole", "more"],
+               ["--whole", "--start"], ["--whole", "--whole"], ["--given-order"], ["--level", "strict"],
+               ["--level", "sequential"], ["--steps", "-1"])
+    # A folder is opened, and then cannot be read.
+    stopped = ((["--start", "/"], b"fault read\n"), (["--start", f"{HERE}/none", "--whole"], b"fault open\n"))
+    for words, told in (*((words, None) for words in refused), *stopped):
+        done = subprocess.run([program, "keys", *words], input=b"0 0 1 get", capture_output=True, timeout=60, check=False)
+        named = done.stdout == told if told else done.stderr and not done.stdout
+        if done.returncode != (STOPPED if told else REFUSED) or not named:
             print(f"store: {words}: status {done.returncode}, {done.stdout!r} {done.stderr!r}")
             return False
-    done = subprocess.run([program, "--help"], stdin=subprocess.DEVNULL, capture_output=True, check=False)
-    if done.returncode or b"--start FILE" not in done.stdout:
+    done = subprocess.run([program, "keys", "--help"], stdin=subprocess.DEVNULL, capture_output=True, check=False)
+    if done.returncode or b"--start <FILE>" not in done.stdout:
         print(f"store: help: status {done.returncode}, {done.stdout!r}")
         return False
     return True
@@ -528,7 +541,7 @@ def bears_refusals(program):
     text = b"".join(b'%d %d %d put "%x" "v" -> ok\n' % (place % 64, place, place, place) for place in range(50_000))
     right, told = b"legal calls=50000 clients=64 objects=50000\n", set()
     for mebibytes in (4, 8, 16, 24, 32, 64):
-        done = subprocess.run(["bash", "-c", 'ulimit -v "$1"; exec "$0"', program, str(mebibytes << 10)], input=text,
+        done = subprocess.run(["bash", "-c", 'ulimit -v "$1"; exec "$0" keys', program, str(mebibytes << 10)], input=text,
                               capture_output=True, check=False)
         if (done.stdout, done.returncode) not in ((right, 0), (b"fault memory\n", STOPPED)):
             print(f"store: with {mebibytes} MiB: status {done.returncode}, {done.stdout!r} {done.stderr!r}")
@@ -542,8 +555,8 @@ def bears_refusals(program):
 def bears_streams(program):
     """Whether an input that cannot be read is a named fault, and an output that cannot be written has its status."""
     text = b'0 0 1 put "a" "b" -> ok\n'
-    unread = subprocess.run(["bash", "-c", 'exec "$0" < /', program], capture_output=True, check=False)
-    unwritten = subprocess.run(["bash", "-c", 'exec "$0" > /dev/full', program], input=text, capture_output=True,
+    unread = subprocess.run(["bash", "-c", 'exec "$0" keys < /', program], capture_output=True, check=False)
+    unwritten = subprocess.run(["bash", "-c", 'exec "$0" keys > /dev/full', program], input=text, capture_output=True,
                                check=False)
     right = (unread.stdout, unread.returncode, unwritten.returncode) == (b"fault read\n", STOPPED, STOPPED)
     if not right:
@@ -552,13 +565,16 @@ def bears_streams(program):
 
 
 def bears_long_searches(program):
-    """Whether a search that needs more steps than there are is undecided, with a status of its own."""
+    """Whether a search that needs more steps than there are is undecided, with a status of its own, and reports its
+    progress if it is asked to."""
     calls = [b'%d 0 9 append "k" "%x" -> ok\n' % (client, client) for client in range(16)]
     text = b"".join(calls) + b'16 10 11 get "k" -> "none"\n'
-    got, status, _ = told_of(program, text)
-    if (got, status) != (b"undecided 16\n", STATUSES[b"undecided"]):
-        print(f"store: a long search: {got!r}, status {status}")
-        return False
+    for words, told in ((["--steps", "99999"], b""), (["--progress"], rb"(placed [0-9]+ steps [0-9]+\n)+")):
+        done = subprocess.run([program, "keys", *words], input=text, capture_output=True, check=False)
+        right = (done.stdout, done.returncode) == (b"undecided 16\n", STATUSES[b"undecided"])
+        if not right or not re.fullmatch(told, done.stderr):
+            print(f"store: a long search: {done.stdout!r} {done.stderr[:80]!r}, status {done.returncode}")
+            return False
     return True
 
 
@@ -618,19 +634,19 @@ def bears_classes(program):
              (wrong, b'illegal part 4001 "0007x"\nstuck 4001 "w"\n', 1),
              (chain, b"legal calls=2000 clients=1 objects=1\n", 0))
     for text, want, status in texts:
-        done = subprocess.run([program, "--whole"], input=text, capture_output=True, timeout=60, check=False)
+        done = subprocess.run([program, "keys", "--whole"], input=text, capture_output=True, timeout=60, check=False)
         if (done.stdout, done.returncode) != (want, status):
             print(f"store: classes: expected {want!r}, got {done.stdout[:80]!r}, status {done.returncode}")
             return False
     return True
 
 
-def draws_are_right(program, begins, wanted, whole=False):
+def draws_are_right(program, begins, wanted, whole=False, level=LINEARIZABLE):
     """Whether the verdicts on drawn histories are right, which begin with first values or not, and each kind came up
     that is wanted."""
-    draw = random.Random((29 if begins else 31) if whole else 23 if begins else 17)
+    draw = random.Random(f"{begins} {whole} {level}")
     kinds = {}
-    for _ in range(HISTORIES // 2 if whole else HISTORIES):
+    for _ in range(HISTORIES // 2 if whole or level != LINEARIZABLE else HISTORIES):
         text, firsts = drawn_whole(draw, begins) if whole else drawn_history(draw, begins)
         start = start_text(draw, firsts) if begins else None
         if draw.random() < 0.3:
@@ -638,14 +654,15 @@ def draws_are_right(program, begins, wanted, whole=False):
                 start = damaged(draw, start)
             else:
                 text = damaged(draw, text)
-        right, want, got = is_right(program, text, start, whole)
+        right, want, got = is_right(program, text, start, whole, level)
         kind = b" ".join(want.split(b" ")[:2 if want[:1] in b"fi" else 1])
         kinds[kind] = kinds.get(kind, 0) + 1
         if not right:
-            print(f"store: expected {want!r}, got {got!r} for:\n{text!r}\nand the start file {start!r}")
+            print(f"store: {level}: expected {want!r}, got {got!r} for:\n{text!r}\nand the start file {start!r}")
             return False
     told = ", ".join(f"{kind.decode()} {count}" for kind, count in sorted(kinds.items()))
     what = f"{' on whole stores' if whole else ''}{' with first values' if begins else ''}"
+    what += "" if level == LINEARIZABLE else f" ({level})"
     print(f"store: {sum(kinds.values())} verdicts{what} are right: {told}")
     if wanted - set(kinds):
         print(f"store: never drawn: {wanted - set(kinds)}")
@@ -656,9 +673,9 @@ def main():
     """Status 0: all verdicts are right and each kind came up."""
     vacation = sys.argv[1] if len(sys.argv) > 1 else f"{HERE}/../crates/vacation/out/vacation"
     crates = os.path.dirname(os.path.dirname(os.path.dirname(os.path.abspath(vacation))))
-    program = f"{crates}/kv_judge/out/kv_judge"
+    program = f"{crates}/judge/out/judge"
     if not os.access(program, os.X_OK):
-        print(f"store: {program} is missing: build kv_judge first")
+        print(f"store: {program} is missing: build judge first")
         return 1
     wanted = {b"legal", b"touching", b"illegal client", b"illegal part", b"fault bad-call", b"fault bad-number",
               b"fault bad-operation", b"fault bad-reply", b"fault half-call"}
@@ -667,6 +684,11 @@ def main():
         return 1
     both = {b"legal", b"illegal client", b"illegal part", b"fault bad-operation", b"fault bad-reply"}
     if not (draws_are_right(program, False, both, True) and draws_are_right(program, True, begun, True)):
+        return 1
+    below = {b"legal", b"illegal part"}
+    if not (draws_are_right(program, False, below, True, SEQUENTIAL) and
+            draws_are_right(program, True, below, True, SERIALIZABLE) and
+            draws_are_right(program, False, below, False, SERIALIZABLE)):
         return 1
     bears = (bears_cuts, bears_cut_starts, bears_usage, bears_size, bears_refusals, bears_streams, bears_long_searches,
              bears_overlaps, bears_classes)

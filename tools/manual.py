@@ -144,7 +144,7 @@ def table_of(table):
 
 def code_of(lines):
     """Lines as they stand, of a program that is installed."""
-    installed = re.sub(r"\./(vacation|judge|kv_judge)\b", r"\1", "\n".join(lines)).replace(" | ", " |\n      ")
+    installed = re.sub(r"\./(vacation|judge)\b", r"\1", "\n".join(lines)).replace(" | ", " |\n      ")
     shown = [literal(line) for line in installed.split("\n")]
     shown = [f"\\&{line}" if line[:1] in (".", "\\") else line for line in shown]
     return "\n".join([".PP", ".in +4n", ".nf", *shown, ".fi", ".in"])
@@ -214,7 +214,7 @@ def program_page(program, whole, commands, using, version, day, examples):
     lines += [".SH EXIT STATUS", table_of(of_the_program(ends, program))]
     lines += [".SH DIAGNOSTICS", "The last line names the fault:", table_of(faults)]
     lines += [".SH EXAMPLES", *(code_of(first("code", section(using, heading))) for heading in examples)]
-    others = [other for other in ("judge", "kv_judge", "vacation") if other != program]
+    others = [other for other in ("judge", "vacation") if other != program]
     lines += [".SH SEE ALSO", ", ".join([f"{bold('vacation-history')}(5)", *(f"{bold(other)}(1)" for other in others)])]
     return "\n".join(lines) + "\n"
 
@@ -225,7 +225,7 @@ def history_page(rules, using, logs, version, day):
     words = first("text", run, "KIND is")
     lines = [head("VACATION-HISTORY", 5, version, day, "File Formats"),
              ".SH NAME",
-             "vacation-history \\- calls and attempts, as judge and kv_judge read them",
+             "vacation-history \\- calls and attempts, as judge reads them",
              ".SH DESCRIPTION", roff(section(rules, "### Histories")),
              ".SH GRAMMAR", roff(section(logs, "## Grammar"), grammar_of),
              ".SH CALLS WITHOUT AN END", roff(section(logs, "## Calls without an end")),
@@ -240,33 +240,7 @@ def history_page(rules, using, logs, version, day):
     lines += [".SH TEXTS OF ATTEMPTS", roff(section(rules, "### Texts of attempts"))]
     lines += [".SH HISTORIES OF A KEY-VALUE STORE", roff(section(rules, "### Histories of a key-value store"))]
     lines += [".SH EXAMPLES", code_of(first("code", section(using, "## `judge history`: whether a history is legal"))),
-              ".SH SEE ALSO", f"{bold('judge')}(1), {bold('vacation')}(1), {bold('kv_judge')}(1)"]
-    return "\n".join(lines) + "\n"
-
-
-def read_keys_help(text):
-    """The help of the judge of keys and values: what it does, its usage, and its options with their texts."""
-    usage, about, options, _ = text.strip("\n").split("\n\n")
-    entries = re.findall(r"^(--\w+(?: [A-Z]+)?) {2,}(.+(?:\n(?!--).+)*)", options, flags=re.M)
-    if not entries:
-        raise ValueError("the help of kv_judge has no options")
-    texts = [(flag, " ".join(said.split())) for flag, said in entries]
-    return " ".join(about.split()), usage.removeprefix("usage: "), texts
-
-
-def keys_page(text, rules, version, day):
-    """The manual page of the judge of keys and values, from its help and the page on the rules."""
-    about, usage, options = read_keys_help(text)
-    keys = section(rules, "### Histories of a key-value store")
-    program, *rest = usage.split(" ")
-    lines = [head("KV_JUDGE", 1, version, day, "User Commands"),
-             ".SH NAME", "kv_judge \\- judges whether a history of a key-value store is linearizable",
-             ".SH SYNOPSIS", f"{bold(program)} {literal(' '.join(rest))}",
-             ".SH DESCRIPTION", marked(about), f"The lines and the verdicts: {bold('vacation-history')}(5).",
-             ".SH OPTIONS", *[tagged(bold(flag), marked(said)) for flag, said in options],
-             ".SH EXIT STATUS", table_of(first("table", keys, "the history is not legal")),
-             ".SH EXAMPLES", code_of(first("code", keys)),
-             ".SH SEE ALSO", f"{bold('judge')}(1), {bold('vacation-history')}(5)"]
+              ".SH SEE ALSO", f"{bold('judge')}(1), {bold('vacation')}(1)"]
     return "\n".join(lines) + "\n"
 
 

@@ -1,8 +1,8 @@
 #!/usr/bin/env python3
 """Packs the programs, which are built already, with their pages, their manual, the benchmark with its peers, the
 interface and the templates, as a tarball and as a package for Debian, with their sums. Its arguments are the
-programs vacation and judge, the folder that gets them, and, to be packed beside them, the judge of keys and values.
-The same commit and the same programs give the same bytes: owners, modes, times and orders are fixed."""
+programs vacation and judge, and the folder that gets them. The same commit and the same programs give the same bytes:
+owners, modes, times and orders are fixed."""
 
 import gzip
 import hashlib
@@ -29,8 +29,6 @@ LICENSES = ("LICENSE-MIT", "LICENSE-APACHE")
 # What is packed as it stands in the tree, beside pages and licenses: folders, files and pictures.
 AS_IT_STANDS = ("benchmark", "explain", "tools/explaining", "convert", "tools/converting", "include", "share",
                 "docs/*.svg", "docs/anomaly", "docs/histories", "docs/measured.csv", "docs/clauses.txt")
-# The judge of keys and values, beside the programs.
-KEYS = "kv_judge"
 # The headings of the page on how to use the programs whose examples the manual pages show.
 EXAMPLES = {"vacation": ["## `run`: commands and their replies"],
             "judge": ["## `judge history`: whether a history is legal"]}
@@ -54,19 +52,16 @@ def page(name):
 class Release:
     """What is packed: the programs by their names, what they say of themselves, and the commit."""
 
-    def __init__(self, program, judge, keys=None):
+    def __init__(self, program, judge):
         self.program = Path(program).resolve()
         files = {"vacation": self.program, "judge": Path(judge).resolve()}
         self.programs = {name: file.read_bytes() for name, file in files.items()}
-        if keys:
-            self.programs[KEYS] = Path(keys).read_bytes()
         first, *kit = said(self.program, "--version").splitlines()
         self.title, self.version, self.kit = first, first.split()[-1], " ".join(kit)
         git = ("git", "-c", f"safe.directory={ROOT}")
         self.commit, seconds = said(*git, "log", "-1", "--format=%H %ct").split()
         self.seconds = int(seconds)
         self.is_changed = said(*git, "status", "--porcelain") != ""
-        self.keys_help = said(Path(keys).resolve(), "--help") if keys else None
         self.wholes = {name: manual.read_help(said(file, "--help")) for name, file in files.items()}
         self.commands = {name: {command: manual.read_help(said(files[name], command, "--help"))
                                 for command, _ in whole.commands if command != "help"}
@@ -127,7 +122,7 @@ A travel reservation system on a software transactional memory (`vacation`), and
 
 **What is proved** is said in [PROVED](PROVED), with the commit, the toolchain and the assumptions. It is said of {programs} alone. Not proved: the scripts `explain` and `convert`, and all of `benchmark`, `include` and `share`; they are tested.
 
-**Source.** Specifications, proofs and tests are in the source tree, in the language Rattle. The source tree and Rattle have no public address yet: ask whoever gave you this folder. The pages are those of the source tree. Only there is what they name below `crates/`, `tests/` and `tools/` (except `tools/explaining` and `tools/converting`), and `./dev`, `./test`, and pages that `docs` here does not have. The judge of a queue (`queue_judge`) and `tools/new_object` are there too; `rt` is Rattle's.
+**Source.** Specifications, proofs and tests are in the source tree, in the language Rattle. The source tree and Rattle have no public address yet: ask whoever gave you this folder. The pages are those of the source tree. Only there is what they name below `crates/`, `tests/` and `tools/` (except `tools/explaining` and `tools/converting`), and `./dev`, `./test`, and pages that `docs` here does not have. The judge of a queue and `tools/new_object` are there too; `rt` is Rattle's.
 """
 
 
@@ -176,8 +171,6 @@ def texts(release):
         share[f"man/man1/{name}.1"] = manual.program_page(
             name, whole, release.commands[name], using, release.title, day, EXAMPLES[name])
         share[f"bash-completion/completions/{name}"] = manual.completions(name, whole, release.commands[name])
-    if release.keys_help:
-        share["man/man1/kv_judge.1"] = manual.keys_page(release.keys_help, rules, release.title, day)
     made = {f"share/{name}": text.encode() for name, text in share.items()}
     made["PROVED"] = proved(release).encode()
     made["README.md"] = readme(release).encode()
@@ -285,8 +278,8 @@ def debian(release, files, place):
 
 
 def main():
-    program, judge, folder, *keys = sys.argv[1:]
-    folder, release = Path(folder), Release(program, judge, *keys)
+    program, judge, folder = sys.argv[1:]
+    folder, release = Path(folder), Release(program, judge)
     files = texts(release)
     name = f"vacation-{release.version}-x86_64-linux"
     folder.mkdir(parents=True, exist_ok=True)

@@ -1,5 +1,5 @@
 // Porcupine's algorithm for histories of a key-value store: Wing and Gong's search (1993) with Lowe's cache of
-// configurations (2017), a partition for each key. Reads the lines that kv_judge reads, without a check of their
+// configurations (2017), a partition for each key. Reads the lines that 'judge keys' reads, without a check of their
 // form, and writes `legal` or `illegal part KEY`.
 #include <algorithm>
 #include <cstdint>

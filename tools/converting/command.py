@@ -17,7 +17,7 @@ from .jsonlines import json_calls, porcupine_calls
 ROOT = Path(__file__).resolve().parent.parent.parent
 LEGAL, NOT_LEGAL, BROKEN, UNDECIDED = 0, 1, 2, 3
 FORMATS = {"jepsen": jepsen_calls, "json": json_calls, "porcupine": porcupine_calls}
-DESCRIPTION = """Turns a foreign history of a key-value store into the lines that the program kv_judge reads. What was
+DESCRIPTION = """Turns a foreign history of a key-value store into the lines that 'judge keys' reads. What was
 counted, skipped and assumed stands on standard error."""
 STATUSES = """Status: 0 if all was converted (with --judge: if the history is legal), 1 if a line of the file is a fault
 (with --judge: if the history is not legal), 2 if the command line was refused, or a file or the judge failed,
@@ -34,7 +34,7 @@ def _options(words: list[str]) -> argparse.Namespace:
     parser.add_argument("file", metavar="FILE", help="the history; '-' for standard input")
     parser.add_argument("--judge", action="store_true",
                         help="judge the history; the verdict names lines of the given file")
-    parser.add_argument("--program", metavar="P", help="the program kv_judge (default: that of the last build)")
+    parser.add_argument("--program", metavar="P", help="the program judge (default: that of the last build)")
     parser.add_argument("--start", metavar="VALUES",
                         help='first values: a file of JSON objects {"key": KEY, "value": VALUE}')
     parser.add_argument("--first", metavar="VALUE", help="the first value of each key that --start does not name")
@@ -55,15 +55,15 @@ def read_text(name: str) -> str:
 
 
 def find_program(named: str | None) -> Path:
-    """The program of the command line, of the variable KV_JUDGE, of the last build of a clone, beside the script, or
-    on the PATH."""
-    named = named or os.environ.get("KV_JUDGE")
-    places = [Path(named)] if named else [ROOT / "crates/kv_judge/out/kv_judge", ROOT / "kv_judge",
-                                          Path(shutil.which("kv_judge") or ROOT / "kv_judge")]
+    """The program of the command line, of the variable JUDGE, of the last build of a clone, beside the script, or on
+    the PATH."""
+    named = named or os.environ.get("JUDGE")
+    places = [Path(named)] if named else [ROOT / "crates/judge/out/judge", ROOT / "judge",
+                                          Path(shutil.which("judge") or ROOT / "judge")]
     for place in places:
         if place.is_file() and os.access(place, os.X_OK):
             return place.resolve()
-    raise NoProgram(f"there is no program at {places[0]}: build kv_judge, or name one with --program")
+    raise NoProgram(f"there is no program at {places[0]}: build judge, or name one with --program")
 
 
 def first_values(options: argparse.Namespace, calls: list[Call]) -> dict[bytes, bytes]:
@@ -114,7 +114,7 @@ def judge(options: argparse.Namespace, calls: list[Call]) -> int:
     """Has the program judge calls, and writes its verdict. Returns its status."""
     text = "".join(line_of(call) + "\n" for call in calls)
     whole = ["--whole"] if is_whole(calls) else []
-    done = subprocess.run([find_program(options.program), *whole], input=text.encode("ascii"), stdout=subprocess.PIPE,
+    done = subprocess.run([find_program(options.program), "keys", *whole], input=text.encode("ascii"), stdout=subprocess.PIPE,
                           check=False)
     if done.returncode not in (LEGAL, NOT_LEGAL, UNDECIDED):
         told = done.stdout.decode("ascii").strip() or f"status {done.returncode}"
@@ -139,7 +139,7 @@ def _run(options: argparse.Namespace) -> int:
     if options.judge:
         return judge(options, calls)
     if is_whole(calls):
-        print("convert: transactions over several keys: judge with kv_judge --whole", file=sys.stderr)
+        print("convert: transactions over several keys: judge with 'judge keys --whole'", file=sys.stderr)
     for call in calls:
         sys.stdout.write(line_of(call) + "\n")
     sys.stdout.flush()

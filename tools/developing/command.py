@@ -63,18 +63,14 @@ def mutate(words: Sequence[str]) -> int:
 
 def package(words: Sequence[str]) -> int:
     """Packs the programs for those without the toolchain, after a build if no program is named."""
-    if len(words) not in (0, 3, 4) or {"-h", "--help"} & set(words):
-        say("usage: ./dev package [VACATION JUDGE FOLDER [KV_JUDGE]]")
+    if len(words) not in (0, 3) or {"-h", "--help"} & set(words):
+        say("usage: ./dev package [VACATION JUDGE FOLDER]")
         return 2
     if not words:
         for program in PROGRAMS:
             if status := run([ROOT / program, "--version"]):
                 return status
-        keys = ROOT / "crates/kv_judge"
-        if status := run([sys.executable, ROOT / "tools/build_program.py", str(os.cpu_count() or 1)], keys):
-            return status
-        words = [*(str(ROOT / f"crates/{program}/out/{program}") for program in PROGRAMS), str(ROOT / "out/release"),
-                 str(keys / "out/kv_judge")]
+        words = [*(str(ROOT / f"crates/{program}/out/{program}") for program in PROGRAMS), str(ROOT / "out/release")]
     return python("tools/package.py", words)
 
 
@@ -90,7 +86,7 @@ COMMANDS = {
     "bench": Command("[OPTION]..", "measure the program beside its peers", script("benchmark/measure.py")),
     "time": Command("[OPTION]..", "compare times with one peer by pairs of runs", script("benchmark/pairs.py")),
     "profile": Command("[OPTION]..", "print the hottest functions and instructions", script("benchmark/samples.py")),
-    "package": Command("[VACATION JUDGE FOLDER [KV_JUDGE]]", "pack a tarball and a Debian package", package, ("git",)),
+    "package": Command("[VACATION JUDGE FOLDER]", "pack a tarball and a Debian package", package, ("git",)),
     "new-law": Command("NAME", "write a crate with a transactional object of its own", script("tools/new_law")),
     "new-object": Command("NAME", "write a crate with a sequential object, and a judge of its histories",
                           script("tools/new_object")),

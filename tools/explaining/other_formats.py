@@ -37,7 +37,7 @@ def _is_task_of_client(line: str) -> bool:
 
 FORMATS: tuple[tuple[Callable[[str], bool], str], ...] = (
     (_is_attempt, "This is a text of attempts, not of calls: 'judge attempts < LOG' judges it."),
-    (_is_key_call, "This is a history of a key-value store: 'kv_judge < LOG' judges it."),
+    (_is_key_call, "This is a history of a key-value store: 'judge keys < LOG' judges it."),
     (_is_task_of_client, "This is a workload, tasks without replies: 'judge history --tasks LOG < HISTORY' checks a"
                          " history against it."))
 

@@ -38,15 +38,14 @@ class Judgement:
 
 @dataclass(frozen=True)
 class Programs:
-    """The proved programs: that which draws the tasks, the judge of reservations, and that of keys."""
+    """The proved programs: that which draws the tasks, and the judge."""
     vacation: str
     judge_program: str
-    kv_judge: str
 
     def judge(self, workload: Workload) -> list[str]:
         """Returns the command that judges a history on its standard input."""
         if workload is Workload.KEYS:
-            return [self.kv_judge]
+            return [self.judge_program, "keys"]
         return [self.judge_program, "history", "--blocks", str(NO_BOUND)]
 
 

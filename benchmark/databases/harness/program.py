@@ -90,9 +90,7 @@ def read_options(arguments: list[str]) -> argparse.Namespace:
                         " or a run of either (default: reservations)")
     parser.add_argument("--program", default=str(_own_program()), help="the proved program that draws the tasks (default: %(default)s)")
     parser.add_argument("--judge", default=str(_judge()),
-                        help="the proved judge of the workload 'reservations' (default: %(default)s)")
-    parser.add_argument("--kv-judge", default=str(_judge_of_keys()),
-                        help="the proved judge of the workload 'keys' (default: %(default)s)")
+                        help="the proved judge of both workloads (default: %(default)s)")
     options = parser.parse_args(arguments)
     try:
         _chosen(options.database)
@@ -107,14 +105,8 @@ def _own_program() -> Path:
 
 
 def _judge() -> Path:
-    """Returns the judge of reservations of this checkout, or of this unpacked tarball."""
+    """Returns the judge of this checkout, or of this unpacked tarball."""
     return next((file for file in (ROOT / "judge", ROOT / "bin/judge") if file.exists()), ROOT / "judge")
-
-
-def _judge_of_keys() -> Path:
-    """Returns the judge of keys of this checkout, or of this unpacked tarball."""
-    own = ROOT / "crates/kv_judge/out/kv_judge"
-    return next((file for file in (own, ROOT / "kv_judge", ROOT / "bin/kv_judge") if file.exists()), own)
 
 
 def _chosen(word: str) -> list[tuple[str, Database, Setting]]:
@@ -264,7 +256,7 @@ def _do(worker: Worker, plan: Plan, options: argparse.Namespace, progress: Progr
 
 
 def _programs(options: argparse.Namespace) -> Programs:
-    return Programs(options.program, options.judge, options.kv_judge)
+    return Programs(options.program, options.judge)
 
 
 def _folder_beside(folder: Path) -> Path:

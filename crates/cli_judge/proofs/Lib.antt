@@ -3,3 +3,4 @@ pub mod Judgement
 pub mod Reported
 pub mod PartNames
 pub mod Verdicts
+pub mod Stores

@@ -1,6 +1,7 @@
 -- The last line and the status of the judge: 0 yes, 1 no, 2 a refused command line, 3 undecided, 4
 -- a fault of a stream or of memory.
 use Rattle.std.specs.Prelude.{◌≡◌, ◌⊎◌, ℕ, Bool, true, false, Option, Result, Ok, Err, List, codes}
+use Rattle.std.specs.Io.KnownBytes.{Appends}
 use Rattle.vac_lines.specs.Script.{as_line}
 use Rattle.vac_lines.specs.Writing.{AppendsPrefix}
 use Rattle.vac_lines.specs.declared.stream_fault.StreamFault.{StreamFault}
@@ -31,3 +32,9 @@ EndsJudged (Ok true) status held holds = (status ≡ 0) × (holds ≡ held)
 EndsJudged (Ok false) status held holds = (status ≡ 1) × (holds ≡ held)
 EndsJudged (Err fault) status held holds =
     (status ≡ FAULT) × AppendsPrefix held holds (fault_line fault)
+
+-- a text was written and the status is this one, or a prefix of the text was written and the status
+-- is 4
+abbrev pub EndsWith : ℕ → List ℕ → ℕ → Option (List ℕ) → Option (List ℕ) → Type 0
+EndsWith done text status held holds = ((status ≡ done) × Appends held holds text)
+    ⊎ ((status ≡ FAULT) × AppendsPrefix held holds text)

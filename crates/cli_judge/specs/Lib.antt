@@ -6,3 +6,5 @@ pub mod Ordering
 pub mod Asking
 pub mod Parting
 pub mod Laws
+pub mod Objects
+pub mod Keys

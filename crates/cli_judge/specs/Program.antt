@@ -7,11 +7,13 @@ use Rattle.vac_lines.specs.Script.{as_line}
 use Rattle.cli_common.specs.Showing.{ShowsError}
 use Rattle.judge_options.specs.declared.asked.Request.{Request}
 use Rattle.judge_options.specs.declared.asked.Request.TheVariants.{History, Order, UnknownLevel}
-use Rattle.judge_options.specs.declared.asked.Request.TheVariants.{Attempts, Part}
+use Rattle.judge_options.specs.declared.asked.Request.TheVariants.{Attempts, Part, Keys, Queue}
 use Rattle.judge_options.specs.CommandLine.{judge, AsksFor}
 use Rattle.cli_judge.specs.declared.status.TheConstants.{FAULT}
 use Rattle.cli_judge.specs.Ordering.{Orders}
 use Rattle.cli_judge.specs.Asking.{Refuses, JudgesAsked, JudgesOpacity}
+use Rattle.cli_judge.specs.Keys.{JudgesKeysAsked}
+use Rattle.cli_judge.specs.Objects.{JudgesQueue, settings_of}
 use Rattle.cli_judge.specs.Parting.{WritesPartOf}
 use Rattle.cli_judge.specs.Reporting.{Reports}
 
@@ -28,6 +30,10 @@ Fulfils files (Attempts how) status unread left held holds =
     JudgesOpacity how.place how.words status unread left held holds
 Fulfils files (Part words) status unread left held holds =
     WritesPartOf words status unread left held holds
+Fulfils files (Keys how) status unread left held holds =
+    JudgesKeysAsked files how status unread left held holds
+Fulfils files (Queue search) status unread left held holds =
+    JudgesQueue (settings_of search) status unread left held holds
 
 -- the text of `--version`: the name and version of the program, and the toolchain that proved and
 -- built it

@@ -12,8 +12,10 @@ use Rattle.judge_options.specs.declared.asked.JudgeSettings.{JudgeSettings}
 use Rattle.judge_options.specs.declared.asked.Request.{Request}
 use Rattle.judge_options.specs.declared.asked.Request.TheVariants.{History, Order}
 use Rattle.judge_options.specs.declared.asked.Request.TheVariants.{Attempts, Part}
-use Rattle.judge_options.specs.declared.asked.Request.TheVariants.{UnknownLevel}
+use Rattle.judge_options.specs.declared.asked.Request.TheVariants.{UnknownLevel, Keys, Queue}
+use Rattle.judge_options.specs.declared.asked.SearchSettings.{SearchSettings}
 use Rattle.cli_judge.specs.Asking.{is_refused}
+use Rattle.cli_judge.specs.Keys.{lacks_whole}
 
 -- a report: the figures if they are asked for, and behind them the warnings if the status is that
 -- of a positive verdict
@@ -70,6 +72,14 @@ ReportsUnless true how status told tells = ⊤
 ReportsUnless false how status told tells =
     ReportsBeside how.search.progress how.search.stats (is_some how.tasks) status told tells
 
+-- what a judge of a key-value store reports, unless the command line is refused
+-- Not said: the text about a refused command line.
+abbrev pub ReportsKeysUnless : Bool → SearchSettings → ℕ → Option (List ℕ) → Option (List ℕ)
+    → Type 0
+ReportsKeysUnless true search status told tells = ⊤
+ReportsKeysUnless false search status told tells =
+    ReportsBeside search.progress search.stats false status told tells
+
 -- what the program reports on standard error if it does what a command line asks for
 -- Not said: the reports of `part`; the text about a word that names no level.
 abbrev pub Reports : Request → ℕ → Option (List ℕ) → Option (List ℕ) → Type 0
@@ -79,3 +89,7 @@ Reports (Order blocks search) status told tells =
 Reports UnknownLevel status told tells = ⊤
 Reports (Attempts how) status told tells = ReportsAttempts how.stats status told tells
 Reports (Part words) status told tells = ⊤
+Reports (Keys how) status told tells =
+    ReportsKeysUnless (lacks_whole how) how.search status told tells
+Reports (Queue search) status told tells =
+    ReportsBeside search.progress search.stats false status told tells

@@ -1,19 +1,18 @@
 //! Judging histories and attempts, and the resulting statuses.
 
-ghost use Rattle.std.specs.Prelude.{◌≡◌, true, false, IfOk, IfErr, OnOk, IsSome, option_map};
-ghost use Rattle.std.specs.Prelude.{is_some};
+ghost use Rattle.std.specs.Prelude.{◌≡◌, true, false, option_map, is_some};
 ghost use Rattle.vac_model.specs.Ranges.{is_block_count};
-ghost use Rattle.cli_judge.specs.Judging.{Judges, JudgesWith, NotOpened};
+ghost use Rattle.cli_judge.specs.Judging.{Judges, JudgesWith};
 ghost use Rattle.cli_judge.specs.Asking.{has_stray_settings, is_below, has_tasks_below, is_refused};
 ghost use Rattle.cli_judge.specs.Asking.{JudgesAs, JudgesAsked};
 ghost use Rattle.cli_judge.specs.Asking.{JudgesAttempts, PlacesAttempts, JudgesOpacity};
 ghost use Rattle.cli_judge.specs.Reporting.{ReportsUnless, ReportsAttempts};
 ghost use Rattle.judge_coverage.specs.Watching.{inner_of};
 
-use crate::files::Open;
+use crate::files::{Open, open_file};
 use crate::reporting::{most_watched, report_attempts, report_calls};
 use crate::searching::judge_any_telling;
-use crate::status::{end_by, end_judged, end_unopened};
+use crate::status::end_judged;
 use cli_common::refuse;
 use judge_calls::{CALL_BYTES, judge_history, judge_with_workload};
 use judge_coverage::Watched;
@@ -21,10 +20,8 @@ use judge_object::Level;
 use judge_opacity::{ATTEMPT_BYTES, judge_attempts, place_attempts};
 use judge_options::{JudgeSettings, OpacitySettings};
 use std::alloc::Global;
-use std::io;
-use std::io::{ErrorKind, Read, Write};
+use std::io::{Read, Write};
 use std::time::Clock;
-use vac_lines::StreamFault;
 
 /// Judges a history in the order of its lines, and returns the status: 0 if the history is legal.
 pub(crate) fn judge_alone<R: Read, W: Write>(
@@ -65,40 +62,6 @@ fn judge_with<F: Read + Drop, R: Read, W: Write>(
     }
 }
 
-/// Writes the last line after an error in opening the file of the tasks, and returns the status.
-fn end_unopened_by<W: Write>(error: &io::Error, output: &mut W) -> u8
-    ensures { NotOpened result (W.contents output.old) (W.contents output.new) }
-{
-    if error.kind() == ErrorKind::OutOfMemory {
-        end_by(StreamFault::Memory, output)
-    } else {
-        end_unopened(output)
-    }
-}
-
-/// Opens the file of tasks of this name, if there is a name. If the file was not opened, the error
-/// is the status.
-fn open_tasks<F: Open, W: Write>(
-    files: &F,
-    name: Option<&str>,
-    output: &mut W,
-) -> Result<Option<F::File>, u8>
-    ensures opened { IfOk result (λ tasks. option_map F.File.remaining tasks
-        ≡ option_map (λ n. F.holds files.now n.now) name.entry) }
-    ensures unwritten { OnOk result (W.contents output.new ≡ W.contents output.old) }
-    ensures named { IfErr result (λ _. IsSome name.entry) }
-    ensures refused { IfErr result (λ status.
-        NotOpened status (W.contents output.old) (W.contents output.new)) }
-{
-    let Some(name) = name else {
-        return Ok(None);
-    };
-    match files.open(name) {
-        Ok(tasks) => Ok(Some(tasks)),
-        Err(error) => Err(end_unopened_by(&error, output)),
-    }
-}
-
 /// Judges a history in an order that is found or in that of its lines, against the tasks of a file
 /// if the settings name one, and returns the status.
 fn judge_as<T: Clock + AllocGlobal, F: Open, R: Read, W: Write, E: Write>(
@@ -117,7 +80,7 @@ fn judge_as<T: Clock + AllocGlobal, F: Open, R: Read, W: Write, E: Write>(
     ensures untold { how.entry.search.progress ≡ false →
         E.contents errors.new ≡ E.contents errors.old }
 {
-    let tasks = match open_tasks(files, how.tasks, output) {
+    let tasks = match open_file(files, how.tasks, output) {
         Ok(tasks) => tasks,
         Err(status) => return status,
     };

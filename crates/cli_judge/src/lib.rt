@@ -4,9 +4,12 @@
 
 mod files;
 mod judging;
+mod keys;
 mod laws;
+mod objects;
 mod parting;
 mod program;
+mod progress;
 mod reporting;
 mod searching;
 mod status;

@@ -9,6 +9,8 @@ ghost use Rattle.cli_judge.specs.Program.{Serves, version_text};
 
 use crate::files::Open;
 use crate::judging::{judge, judge_opaque};
+use crate::keys::judge_keys;
+use crate::objects::judge_queue;
 use crate::parting::part;
 use crate::searching::order;
 use crate::status::FAULT;
@@ -32,7 +34,7 @@ const UNKNOWN_LEVEL: &[u8] = b"error: --level is linearizable, sequential or ser
 /// | Status | Meaning |
 /// |---|---|
 /// | 0 | yes, the order or part was written, or help or version were shown |
-/// | 1 | no, or a line is no call or no attempt |
+/// | 1 | no, or a line is no call, no attempt or no first value of a key |
 /// | 2 | the command line was refused |
 /// | 3 | a search did not decide within its steps |
 /// | 4 | a stream failed, a file was not opened, or memory was refused |
@@ -66,6 +68,8 @@ pub fn run_words<T: Clock + AllocGlobal, R: Read, W: Write, E: Write, F: Open>(
         Ok(Request::UnknownLevel) => refuse(UNKNOWN_LEVEL, errors),
         Ok(Request::Attempts(how)) => judge_opaque(alloc, how, input, output, errors),
         Ok(Request::Part(words)) => part(alloc, &words, input, output, errors),
+        Ok(Request::Keys(how)) => judge_keys(rt, files, how, input, output, errors),
+        Ok(Request::Queue(search)) => judge_queue(rt, search, input, output, errors),
         Err(error) => explain(alloc, &error, output, errors),
     }
 }

@@ -14,9 +14,10 @@ ghost use Rattle.cli_judge.specs.declared.status.TheConstants.{FAULT};
 ghost use Rattle.judge_coverage.specs.Watching.{inner_of};
 
 use crate::judging::judge_alone;
+use crate::progress::ProgressWatcher;
 use crate::reporting::{most_watched, report_calls};
 use crate::status::{FAULT, NO, UNDECIDED, end_by, end_judged};
-use cli_common::{DONE, has_passed, write_done, write_text};
+use cli_common::{DONE, write_done};
 use judge_calls::{CALL_BYTES, judge_order_with_workload, read_all};
 use judge_coverage::Watched;
 use judge_linear::{Outcome, Settings, order_history};
@@ -24,44 +25,8 @@ use judge_object::{Level, Watcher};
 use judge_options::{JudgeSettings, SearchSettings};
 use std::alloc::Global;
 use std::io::{Read, Write};
-use std::time::{Clock, Instant};
+use std::time::Clock;
 use vac_lines::{StreamFault, write_and_flush};
-
-/// Number of steps between two readings of the clock.
-const STRIDE: u64 = 4_096;
-
-/// A watcher that writes the progress of a search at most twice a second.
-#[derive(Drop)]
-struct ProgressWatcher<'a, 'b, T, E> {
-    rt: &'a T,
-    errors: &'b mut E,
-    last: Option<Instant>,
-}
-
-impl<'a, 'b, T: Clock, E: Write> ProgressWatcher<'a, 'b, T, E> {
-    /// Returns the watcher of a search that begins.
-    fn new(rt: &'a T, errors: &'b mut E) -> ProgressWatcher<'a, 'b, T, E> {
-        ProgressWatcher {
-            rt,
-            errors,
-            last: Instant::now(rt).ok(),
-        }
-    }
-}
-
-impl<T: Clock + AllocGlobal, E: Write> Watcher for ProgressWatcher<'_, '_, T, E> {
-    fn tell(&mut self, placed: u64, steps: u64) {
-        if steps % STRIDE != 0 || !has_passed(self.rt, self.last) {
-            return;
-        }
-        write_text(
-            self.rt.alloc(),
-            format_args!("placed {placed} steps {steps}\n"),
-            self.errors,
-        );
-        self.last = Instant::now(self.rt).ok();
-    }
-}
 
 /// Returns the status of an outcome.
 fn status_of(outcome: Outcome) -> u8

@@ -3,11 +3,11 @@
 ghost use Rattle.std.specs.Prelude.{◌≡◌};
 ghost use Rattle.vac_lines.specs.Writing.{AppendsPrefix};
 ghost use Rattle.cli_common.specs.Ending.{fault_line};
-ghost use Rattle.cli_judge.specs.Ending.{EndsJudged, unopened_line};
+ghost use Rattle.cli_judge.specs.Ending.{EndsJudged, EndsWith, unopened_line};
 
 use cli_common::{DONE, write_fault, write_last};
 use std::io::Write;
-use vac_lines::StreamFault;
+use vac_lines::{StreamFault, write_and_flush};
 
 /// Status of a negative verdict.
 pub(crate) const NO: u8 = 1;
@@ -48,4 +48,14 @@ pub(crate) fn end_unopened<W: Write>(output: &mut W) -> u8
 {
     write_last(b"fault open\n", output);
     FAULT
+}
+
+/// Writes a text, and returns this status, or that of a fault if the output failed.
+pub(crate) fn end_with<W: Write>(status: u8, text: &[u8], output: &mut W) -> u8
+    ensures { EndsWith status text.now result (W.contents output.old) (W.contents output.new) }
+{
+    match write_and_flush(output, text) {
+        Ok(()) => status,
+        Err(_) => FAULT,
+    }
 }

@@ -2,7 +2,14 @@
 use Rattle.std.proofs.Common.{◌≡◌, ℕ, Bool, true, false, cond, List, [], ◌∷◌, ◌++◌, map, refl, sym, ap, ◌∙◌}
 use Rattle.std.proofs.Common.{subst, inl, inr}
 use Rattle.judge_object.specs.Rules.{IsAnswerOf}
+use Rattle.std.specs.Prelude.{◌+◌, All}
+use Rattle.std.proofs.lemmas.List.Elements.{All-cons, All-head, All-tail, All-nil}
+use Rattle.std.proofs.lemmas.List.Sorted.{All-permutation}
 use Rattle.judge_object.specs.Call.{Call}
+use Rattle.judge_object.specs.declared.level.Level.{Level}
+use Rattle.judge_object.specs.declared.level.Level.TheVariants as level
+use Rattle.judge_object.specs.Levels.{IsAt, IsSelectionOf}
+use Rattle.judge_object.specs.Relaxed.{untimed, alone, relax}
 use Rattle.judge_object.specs.Orders.{IsOrderOf}
 use Rattle.judge_object.specs.Linear.{GiveReplies}
 use Rattle.judge_kv.specs.Replies.{Answered}
@@ -207,3 +214,72 @@ objects_make_store pairs calls objects joins = (
     };
   },
 )
+
+-- ---- each level
+
+-- what is known of calls by their operations holds also without the order that a level does not keep
+of_untimed : (objects : List ℕ → List ℕ) (calls : List (Call Requested)) →
+    Each (IsOneFor objects) (map untimed calls) → Each (IsOneFor objects) calls
+of_untimed objects [] h = tt
+of_untimed objects (c ∷ cs) h = (h.0, of_untimed objects cs h.1)
+
+of_alone : (objects : List ℕ → List ℕ) (n : ℕ) (calls : List (Call Requested)) →
+    Each (IsOneFor objects) (alone n calls) → Each (IsOneFor objects) calls
+of_alone objects n [] h = tt
+of_alone objects n (c ∷ cs) h = (h.0, of_alone objects (n + 1) cs h.1)
+
+pub of_relaxed : (objects : List ℕ → List ℕ) (kept : Level) (calls : List (Call Requested)) →
+    Each (IsOneFor objects) (relax kept calls) → Each (IsOneFor objects) calls
+of_relaxed objects level.Linearizable calls h = h
+of_relaxed objects level.Sequential calls h = of_untimed objects calls h
+of_relaxed objects level.Serializable calls h = of_alone objects 1 calls h
+
+to_all : (P : Call Requested → Type 0) (xs : List (Call Requested)) → Each P xs → All P xs
+to_all P [] h = All-nil P
+to_all P (x ∷ xs) h = All-cons P x xs h.0 (to_all P xs h.1)
+
+of_all : (P : Call Requested → Type 0) (xs : List (Call Requested)) → All P xs → Each P xs
+of_all P [] h = tt
+of_all P (x ∷ xs) h = (All-head P x xs h, of_all P xs (All-tail P x xs h))
+
+-- the calls of a selection have what the calls of the history have
+selected : (P : Call Requested → Type 0) (calls order : List (Call Requested)) → IsSelectionOf calls order →
+    Each P calls → Each P order
+selected P calls order h each =
+    front P order h.left (of_all P (order ++ h.left) (All-permutation P calls (order ++ h.left) h.all
+    (to_all P calls each)))
+
+-- a history of the whole store is at a level if and only if that of the objects of its keys is
+pub store_to_objects : (kept : Level) (pairs : Pairs) (calls : List (Call Requested)) (objects : List ℕ → List ℕ) →
+    Each (IsOneFor objects) calls → IsAt whole kept pairs calls →
+    IsAt (many whole (for_object objects name_of)) kept (λ name. pairs) calls
+store_to_objects level.Linearizable pairs calls objects joins h = (objects_make_store pairs calls objects joins).0 h
+store_to_objects level.Sequential pairs calls objects joins h = record {
+  order = h.order;
+  orders = h.orders;
+  replies = to_objects objects pairs (λ name. pairs) h.order
+      (ordered (IsOneFor objects) calls h.order h.orders joins) (λ key. refl) h.replies;
+}
+store_to_objects level.Serializable pairs calls objects joins h = record {
+  order = h.order;
+  selects = h.selects;
+  replies = to_objects objects pairs (λ name. pairs) h.order
+      (selected (IsOneFor objects) calls h.order h.selects joins) (λ key. refl) h.replies;
+}
+
+pub objects_to_store : (kept : Level) (pairs : Pairs) (calls : List (Call Requested)) (objects : List ℕ → List ℕ) →
+    Each (IsOneFor objects) calls → IsAt (many whole (for_object objects name_of)) kept (λ name. pairs) calls →
+    IsAt whole kept pairs calls
+objects_to_store level.Linearizable pairs calls objects joins h = (objects_make_store pairs calls objects joins).1 h
+objects_to_store level.Sequential pairs calls objects joins h = record {
+  order = h.order;
+  orders = h.orders;
+  replies = to_store objects pairs (λ name. pairs) h.order
+      (ordered (IsOneFor objects) calls h.order h.orders joins) (λ key. refl) h.replies;
+}
+objects_to_store level.Serializable pairs calls objects joins h = record {
+  order = h.order;
+  selects = h.selects;
+  replies = to_store objects pairs (λ name. pairs) h.order
+      (selected (IsOneFor objects) calls h.order h.selects joins) (λ key. refl) h.replies;
+}

@@ -10,7 +10,7 @@ pub fn objects_make_the_store()
 {}
 
 /// Verdicts on the classes of keys decide whether the calls of a text have a linearization of the
-/// whole store.
+/// whole store, or an order of a weaker level.
 pub fn verdicts_decide_the_store()
     ensures { VerdictsDecideStore }
 {}

@@ -41,7 +41,13 @@ attempts_alone = (
       λ e. refl,
       (
         λ e. absurd (differ _ _ refl e),
-        (λ e. absurd (differ _ _ refl e), tt),
+        (
+          λ e. absurd (differ _ _ refl e),
+          (
+            λ e. absurd (differ _ _ refl e),
+            (λ e. absurd (differ _ _ refl e), tt),
+          ),
+        ),
       ),
     ),
   ),

@@ -63,7 +63,13 @@ history_alone = (
       λ e. absurd (differ _ _ refl e),
       (
         λ e. absurd (differ _ _ refl e),
-        (λ e. absurd (differ _ _ refl e), tt),
+        (
+          λ e. absurd (differ _ _ refl e),
+          (
+            λ e. absurd (differ _ _ refl e),
+            (λ e. absurd (differ _ _ refl e), tt),
+          ),
+        ),
       ),
     ),
   ),

@@ -5,3 +5,5 @@ pub mod OrderOptions
 pub mod AttemptsOptions
 pub mod PartOptions
 pub mod Levels
+pub mod KeysOptions
+pub mod QueueOptions

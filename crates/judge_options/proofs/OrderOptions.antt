@@ -57,7 +57,13 @@ order_alone = (
       λ e. absurd (differ _ _ refl e),
       (
         λ e. absurd (differ _ _ refl e),
-        (λ e. absurd (differ _ _ refl e), tt),
+        (
+          λ e. absurd (differ _ _ refl e),
+          (
+            λ e. absurd (differ _ _ refl e),
+            (λ e. absurd (differ _ _ refl e), tt),
+          ),
+        ),
       ),
     ),
   ),

@@ -39,7 +39,13 @@ part_alone = (
       λ e. absurd (differ _ _ refl e),
       (
         λ e. refl,
-        (λ e. absurd (differ _ _ refl e), tt),
+        (
+          λ e. absurd (differ _ _ refl e),
+          (
+            λ e. absurd (differ _ _ refl e),
+            (λ e. absurd (differ _ _ refl e), tt),
+          ),
+        ),
       ),
     ),
   ),

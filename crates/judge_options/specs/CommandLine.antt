@@ -23,10 +23,11 @@ use Rattle.cli_common.specs.Values.{is_given, values_of}
 use Rattle.judge_options.specs.declared.asked.TheConstants.{DEFAULT_BLOCKS, DEFAULT_STEPS}
 use Rattle.judge_options.specs.declared.asked.Request.{Request}
 use Rattle.judge_options.specs.declared.asked.Request.TheVariants.{History, Order, UnknownLevel}
-use Rattle.judge_options.specs.declared.asked.Request.TheVariants.{Attempts, Part}
+use Rattle.judge_options.specs.declared.asked.Request.TheVariants.{Attempts, Part, Keys, Queue}
 use Rattle.judge_options.specs.declared.asked.PartWords.{PartWords}
 use Rattle.judge_options.specs.declared.asked.SearchSettings.{SearchSettings}
 use Rattle.judge_options.specs.declared.asked.JudgeSettings.{JudgeSettings}
+use Rattle.judge_options.specs.declared.asked.KeysSettings.{KeysSettings}
 use Rattle.judge_options.specs.declared.asked.OpacitySettings.{OpacitySettings}
 
 -- ---- the options and subcommands
@@ -82,6 +83,14 @@ until_option = record (valued_option (codes "until")) {
 abbrev pub part_options : List Rule
 part_options = customer_option ∷ item_option ∷ until_option ∷ []
 
+-- `--start FILE`: the values that keys have at first
+abbrev pub start_option : Rule
+start_option = valued_option (codes "start")
+
+-- the options of a judge of a key-value store's histories
+abbrev pub keys_options : List Rule
+keys_options = flag (codes "whole") ∷ start_option ∷ searching_options
+
 -- the program before its subcommands are added; it has a version, and needs no subcommand
 abbrev pub top_command : App
 top_command = record { top = record (new_shape (codes "judge")) { has_version = true }; subs = [] }
@@ -91,7 +100,9 @@ abbrev pub judging_commands : List Shape
 judging_commands = with_options (codes "history") history_options
     ∷ with_options (codes "order") (blocks_option ∷ searching_options)
     ∷ with_options (codes "attempts") attempts_options
-    ∷ with_options (codes "part") part_options ∷ []
+    ∷ with_options (codes "part") part_options
+    ∷ with_options (codes "keys") keys_options
+    ∷ with_options (codes "queue") searching_options ∷ []
 
 -- the program with its subcommands
 abbrev pub judge : App
@@ -168,6 +179,17 @@ pub record IsOpacity (rows : List Row) (how : OpacitySettings) : Type 0 where
   pub place : Says rows (codes "place") how.place
   pub stats : Says rows (codes "stats") how.stats
 
+-- the rows of clap have all that a judge of a key-value store needs
+pub record HasKeys (rows : List Row) : Type 0 where
+  pub whole : IsFlag rows (codes "whole")
+  pub search : HasSearch rows
+
+-- the settings of a judge of a key-value store are those that its options give
+pub record IsKeys (rows : List Row) (how : KeysSettings) : Type 0 where
+  pub whole : Says rows (codes "whole") how.whole
+  pub start : NamesFile rows (codes "start") how.start
+  pub search : IsSearchOfRows rows how.search
+
 -- clap accepts the words, and its matches are what it found in them
 pub record IsFoundIn (words : List Text) (m : ArgMatches) : Type 0 where
   pub taken : fault_of judge words ≡ []
@@ -183,6 +205,8 @@ pub record NamesNone (words : List Text) : Type 0 where
   pub order : (rows : List Row) → Names words (codes "order") rows → ⊥
   pub attempts : (rows : List Row) → Names words (codes "attempts") rows → ⊥
   pub part : (rows : List Row) → Names words (codes "part") rows → ⊥
+  pub keys : (rows : List Row) → Names words (codes "keys") rows → ⊥
+  pub queue : (rows : List Row) → Names words (codes "queue") rows → ⊥
 
 -- the settings of a judge of a history if the words name no subcommand: those of `history` without
 -- options
@@ -199,7 +223,8 @@ pub record IsDefault (how : JudgeSettings) : Type 0 where
 -- the words name a subcommand that searches, and a word for a level that names none
 abbrev pub NamesNoLevel : List Text → Type 0
 NamesNoLevel words = (rows : List Row)
-    × (Names words (codes "history") rows ⊎ Names words (codes "order") rows)
+    × (Names words (codes "history") rows ⊎ Names words (codes "order") rows
+    ⊎ Names words (codes "keys") rows ⊎ Names words (codes "queue") rows)
     × (level_given rows ≡ None)
 
 -- the words make this request
@@ -215,3 +240,6 @@ AsksFor words (Attempts how) =
     (rows : List Row) × Names words (codes "attempts") rows × IsOpacity rows how
 AsksFor words (Part part) =
     (rows : List Row) × Names words (codes "part") rows × IsPartWords rows part
+AsksFor words (Keys how) = (rows : List Row) × Names words (codes "keys") rows × IsKeys rows how
+AsksFor words (Queue search) =
+    (rows : List Row) × Names words (codes "queue") rows × IsSearchOfRows rows search

@@ -11,6 +11,7 @@ ghost use Rattle.cli_common.specs.Values.{Gives, GivesIn, GivesLine, MayGiveIn, 
 ghost use Rattle.judge_options.specs.CommandLine.{judge, Names, IsFoundIn, AsksFor};
 ghost use Rattle.judge_options.specs.CommandLine.{HasSearch, IsSearchOfRows, HasJudging, IsJudging};
 ghost use Rattle.judge_options.specs.CommandLine.{HasOpacity, IsOpacity, IsPartWords, IsDefault};
+ghost use Rattle.judge_options.specs.CommandLine.{HasKeys, IsKeys};
 ghost use Rattle.judge_options.specs.CommandLine.{level_named, level_given, names_search};
 
 use crate::options::command_line;
@@ -79,6 +80,17 @@ pub struct OpacitySettings {
     pub stats: bool,
 }
 
+/// The settings of a judge of a key-value store's history.
+#[derive(Clone, Copy)]
+pub struct KeysSettings<'a> {
+    /// True if all keys are judged at once, so that a transaction may have several keys.
+    pub whole: bool,
+    /// The file of the values that keys have at first.
+    pub start: Option<&'a str>,
+    /// The settings of the search.
+    pub search: SearchSettings,
+}
+
 /// The request that a command line makes.
 #[derive(Drop)]
 pub enum Request<'a> {
@@ -86,12 +98,16 @@ pub enum Request<'a> {
     History(JudgeSettings<'a>),
     /// Finds an order of a history of a system of this many blocks.
     Order(u32, SearchSettings),
-    /// Refuses `history` or `order`, because the word for the level names none.
+    /// Refuses a subcommand that searches, because the word for the level names none.
     UnknownLevel,
     /// Judges attempts.
     Attempts(OpacitySettings),
     /// Writes the part of a history, or of its cut, on this scope.
     Part(PartWords<'a>),
+    /// Judges a history of a key-value store.
+    Keys(KeysSettings<'a>),
+    /// Judges a history of a bounded queue.
+    Queue(SearchSettings),
 }
 
 /// Parses a command line with clap.
@@ -108,6 +124,13 @@ fn file_of<'a>(matches: &ArgMatches<'a>) -> Option<&'a str>
     ensures { NamesFile (rows_of (found_of matches.now)) (codes "tasks") result }
 {
     matches.get_str("tasks")
+}
+
+/// Returns the file of first values that a judge of a key-value store names, if it names one.
+fn start_of<'a>(matches: &ArgMatches<'a>) -> Option<&'a str>
+    ensures { NamesFile (rows_of (found_of matches.now)) (codes "start") result }
+{
+    matches.get_str("start")
 }
 
 /// Returns the level that a word names, if it names one.
@@ -239,6 +262,43 @@ fn opacity_of(matches: &ArgMatches) -> OpacitySettings
     }
 }
 
+/// Returns the settings of a judge of a key-value store's history at this level.
+fn keys_of<'a>(matches: &ArgMatches<'a>, level: Level) -> KeysSettings<'a>
+    requires level { level_given (rows_of (found_of matches.now)) ≡ Some level }
+    requires keys { HasKeys (rows_of (found_of matches.now)) }
+    ensures { IsKeys (rows_of (found_of matches.now)) result }
+{
+    KeysSettings {
+        whole: flag_of(matches, "whole"),
+        start: start_of(matches),
+        search: search_of(matches, level),
+    }
+}
+
+/// Returns the request of words that name `keys`.
+fn keys_asked<'a>(matches: &ArgMatches<'a>) -> Request<'a>
+    requires { HasKeys (rows_of (found_of matches.now)) }
+    ensures { (words : List Text) → Names words (codes "keys") (rows_of (found_of matches.now)) →
+        AsksFor words result }
+{
+    match level_of(matches) {
+        Some(level) => Request::Keys(keys_of(matches, level)),
+        None => Request::UnknownLevel,
+    }
+}
+
+/// Returns the request of words that name `queue`.
+fn queue_asked<'a>(matches: &ArgMatches<'a>) -> Request<'a>
+    requires { HasSearch (rows_of (found_of matches.now)) }
+    ensures { (words : List Text) → Names words (codes "queue") (rows_of (found_of matches.now)) →
+        AsksFor words result }
+{
+    match level_of(matches) {
+        Some(level) => Request::Queue(search_of(matches, level)),
+        None => Request::UnknownLevel,
+    }
+}
+
 /// Returns the settings of a judge of a history if the words name no command.
 fn default_settings<'a>() -> JudgeSettings<'a>
     ensures default { IsDefault result }
@@ -273,8 +333,14 @@ fn asked_of<'a>(alloc: Global, matches: &ArgMatches<'a>) -> Result<Request<'a>, 
     if let Some(attempts) = named(matches, "attempts") {
         return Ok(Request::Attempts(opacity_of(attempts)));
     }
-    match named(matches, "part") {
-        Some(part) => Ok(Request::Part(part_words_of(alloc, part)?)),
+    if let Some(part) = named(matches, "part") {
+        return Ok(Request::Part(part_words_of(alloc, part)?));
+    }
+    if let Some(keys) = named(matches, "keys") {
+        return Ok(keys_asked(keys));
+    }
+    match named(matches, "queue") {
+        Some(queue) => Ok(queue_asked(queue)),
         None => Ok(Request::History(default_settings())),
     }
 }

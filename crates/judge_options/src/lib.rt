@@ -5,5 +5,7 @@
 mod asked;
 mod options;
 
-pub use asked::{JudgeSettings, OpacitySettings, PartWords, Request, SearchSettings, read_asked};
+pub use asked::{
+    JudgeSettings, KeysSettings, OpacitySettings, PartWords, Request, SearchSettings, read_asked,
+};
 pub use options::VERSION;

@@ -7,7 +7,8 @@ ghost use Rattle.cli_common.specs.Options.{GetsOptions};
 ghost use Rattle.judge_options.specs.CommandLine.{file_option, history_options, attempts_options};
 ghost use Rattle.judge_options.specs.CommandLine.{level_option, searching_options};
 ghost use Rattle.judge_options.specs.CommandLine.{customer_option, item_option, until_option};
-ghost use Rattle.judge_options.specs.CommandLine.{part_options, top_command, judge};
+ghost use Rattle.judge_options.specs.CommandLine.{part_options, start_option, keys_options};
+ghost use Rattle.judge_options.specs.CommandLine.{top_command, judge};
 
 use clap::{Arg, ArgAction, Command, value_parser};
 use cli_common::{
@@ -20,6 +21,13 @@ use std::alloc::Global;
 /// The output of `--version`: the program and its version, and the toolchain that proved and built
 /// the program, as `rt version` names it.
 pub const VERSION: &str = "judge 0.1.0\nrattle-kit-13f logic dac8208d650f15bf\n";
+
+/// Help of the steps of a judge that searches more than once.
+const EACH_SEARCH: &str =
+    "Most steps of the exact search of all calls, and of each quick search of them";
+
+/// Help of the steps of a judge that searches the calls of each object once.
+const ALL_SEARCHES: &str = "Most steps of the searches of all objects together";
 
 /// Names of the two values of an item in the help.
 const ITEM_NAMES: [&str; 2] = ["KIND", "ID"];
@@ -74,6 +82,16 @@ fn until_option<'a>(alloc: Global) -> Arg<'a>
         .help("Cuts the history at the end of the call of this line; lines count from 1")
 }
 
+/// Returns the option that names a file of the values that keys have at first.
+fn start_option<'a>(alloc: Global) -> Arg<'a>
+    ensures { IsOption result start_option }
+{
+    Arg::new(alloc, "start")
+        .long("start")
+        .value_name("FILE")
+        .help("Values that keys have at first, a line KEY VALUE for each; other keys have none")
+}
+
 /// Returns the option for the level of an order.
 fn level_option<'a>(alloc: Global) -> Arg<'a>
     ensures { IsOption result level_option }
@@ -85,13 +103,12 @@ fn level_option<'a>(alloc: Global) -> Arg<'a>
         .help("Level of consistency of the order: linearizable, sequential or serializable")
 }
 
-/// Adds the options of a search for an order, and of the report on the log.
-fn add_searching_options<'a>(alloc: Global, command: Made<'a>) -> Made<'a>
+/// Adds the options of a search for an order, and of the report on the log. The help says which
+/// searches the steps are for.
+fn add_searching_options<'a>(alloc: Global, command: Made<'a>, searches: &'a str) -> Made<'a>
     ensures { GetsOptions command.entry searching_options result }
 {
-    let steps = any_number_option(alloc, "steps", "10000000").help(
-        "Most steps of the exact search of all calls, and of each quick search of them",
-    );
+    let steps = any_number_option(alloc, "steps", "10000000").help(searches);
     let progress = flag(alloc, "progress").help(
         "Reports the progress of the search on standard error, at most twice a second",
     );
@@ -108,7 +125,7 @@ fn order_command<'a>(alloc: Global) -> Made<'a>
         .about("Finds a legal order of the history on standard input, or shows that there is none")
         .after_help("Example:\n  echo '1 0 5 newcust 3 -> true' | judge order")
         .arg(blocks_option(alloc));
-    add_searching_options(alloc, command)
+    add_searching_options(alloc, command, EACH_SEARCH)
 }
 
 /// Returns the subcommand that judges attempts.
@@ -151,7 +168,36 @@ fn history_command<'a>(alloc: Global) -> Made<'a>
         .after_help("Example:\n  echo '1 0 5 newcust 3 -> true' | judge history")
         .arg(blocks_option(alloc));
     let command = add_option(add_option(command, file_option(alloc)), given_order);
-    add_searching_options(alloc, command)
+    add_searching_options(alloc, command, EACH_SEARCH)
+}
+
+/// Returns the subcommand that judges a history of a key-value store.
+fn keys_command<'a>(alloc: Global) -> Made<'a>
+    ensures { IfOk result (λ c. IsCommand c (with_options (codes "keys") keys_options)) }
+{
+    let whole = flag(alloc, "whole").help(
+        "Judges all keys at once, so that a transaction may have several keys",
+    );
+    let command = Command::new(alloc, "keys")
+        .about(
+            "Judges whether the history of a key-value store on standard input has a linearization",
+        )
+        .after_help("Example:\n  echo '1 0 5 put \"x\" \"1\" -> ok' | judge keys")
+        .arg(whole);
+    let command = add_option(command, start_option(alloc));
+    add_searching_options(alloc, command, ALL_SEARCHES)
+}
+
+/// Returns the subcommand that judges a history of a bounded queue.
+fn queue_command<'a>(alloc: Global) -> Made<'a>
+    ensures { IfOk result (λ c. IsCommand c (with_options (codes "queue") searching_options)) }
+{
+    let command = Command::new(alloc, "queue")
+        .about(
+            "Judges whether the history of a queue of four numbers on standard input has a linearization",
+        )
+        .after_help("Example:\n  echo '1 0 5 enqueue 3 -> true' | judge queue");
+    add_searching_options(alloc, Ok(command), ALL_SEARCHES)
 }
 
 /// Returns the program before its subcommands are added.
@@ -173,5 +219,6 @@ pub(crate) fn command_line<'a>(alloc: Global) -> Made<'a>
         add_command(top, order_command(alloc)),
         attempts_command(alloc),
     );
-    add_command(top, part_command(alloc))
+    let top = add_command(add_command(top, part_command(alloc)), keys_command(alloc));
+    add_command(top, queue_command(alloc))
 }

@@ -15,7 +15,9 @@ use Rattle.judge_object.specs.declared.line.Line.{Line}
 use Rattle.judge_search.specs.Walk.{InTurn, IsTimed, IsWhole}
 use Rattle.judge_search.specs.Calls.{call_of, calls_of}
 use Rattle.judge_search.proofs.Each.{Test, test}
+use Rattle.judge_object.specs.Relaxed.{PendingAreLast}
 use Rattle.judge_text.specs.Many.{IsApart, AreStrict}
+use Rattle.judge_text.proofs.Relaxed.{pending_last}
 use Rattle.judge_text.specs.Turns.{began_before, call_breaks_client, calls_overlap, KeepsEnds, KnowsClients, KnowsEnds}
 
 both_false : (a b : Bool) → (a || b) ≡ false → (a ≡ false) × (b ≡ false)
@@ -270,8 +272,13 @@ module _ {O : Type 0} where
 
   pub held_whole : (ends : FinMap nat_cmp ℕ) (calls : List (Call O)) (strict : Bool) → AreHeld ends calls strict →
       IsWhole calls × (strict ≡ true → AreStrict calls) × (strict ≡ false → AreStrict calls → ⊥)
-  held_whole ends calls strict h =
-      (record { turn = h.turn; last = 2 ^ 64 - 1; timed = h.timed }, h.apart, h.touch)
+      × PendingAreLast calls
+  held_whole ends calls strict h = (
+    record { turn = h.turn; last = 2 ^ 64 - 1; timed = h.timed },
+    h.apart,
+    h.touch,
+    pending_last calls h.turn h.timed,
+  )
 
   -- a line is timed
   pub timed_of : (l : Line O) → l.begin < 2 ^ 64 → IsTimed (2 ^ 64 - 1) (call_of l)

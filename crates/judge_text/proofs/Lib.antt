@@ -2,7 +2,9 @@ pub mod Quotes
 pub mod Cutting
 pub mod Histories
 pub mod WordPlaces
+pub mod Relaxed
 pub mod Legal
+pub mod OnLines
 pub mod Ending
 pub mod Counted
 pub mod Naming

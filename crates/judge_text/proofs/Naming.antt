@@ -20,6 +20,8 @@ use Rattle.judge_search.proofs.Right.{of_answer}
 use Rattle.judge_search.proofs.Soonest.{same_calls}
 use Rattle.judge_search.proofs.Sorted.{call_here, length_calls}
 use Rattle.judge_search.proofs.Tries.{at, all_choices, may_begin}
+use Rattle.judge_object.specs.Linear.{IsCallAt}
+use Rattle.judge_text.specs.Many.{part}
 use Rattle.judge_text.specs.ByObject.{AreBlocked}
 use Rattle.judge_text.specs.Runs.{name_of, lines_for}
 use Rattle.judge_text.specs.declared.parts.Blocked.{Blocked}
@@ -29,7 +31,10 @@ use Rattle.judge_text.specs.Classing.{object_of, for_object}
 use Rattle.judge_text.proofs.Blocking.{line_at}
 use Rattle.judge_text.proofs.ByNames.{part_lines}
 use Rattle.judge_object.specs.Orders.{IsLinearizable}
+use Rattle.judge_object.specs.Relaxed.{relax}
+use Rattle.judge_object.specs.declared.level.Level.{Level}
 use Rattle.judge_text.specs.declared.counting.Counts.{Counts}
+use Rattle.judge_text.specs.declared.settings.Settings.{Settings}
 use Rattle.judge_text.specs.declared.judging.TextVerdict.{TextVerdict}
 use Rattle.judge_text.specs.declared.judging.TextVerdict.TheVariants.{Fault, Judged}
 use Rattle.judge_text.specs.Language.{Language}
@@ -221,12 +226,18 @@ module _ {S O R : Type 0} (X : Rules S O R) (name : O → List ℕ) where
       ++ flat_map (stuck_text X kept) rest) o
 
   module _ (L : Language O R) where
-    names_blocked : (s : List ℕ → S) (bytes : List ℕ) (steps : ℕ) (counts : Counts) (blocked : Blocked O S)
+    names_blocked : (s : List ℕ → S) (bytes : List ℕ) (how : Settings) (counts : Counts) (blocked : Blocked O S)
         (text : List ℕ) →
-        IsJudgedText X name L s bytes steps counts (verdict.NotLinearizable blocked) →
-        IsBlockedText X name blocked text → NamesBlocked X name L s bytes text
-    names_blocked s bytes steps counts blocked text j b = go b.stuck b.are b.is
+        IsJudgedText X name L how s bytes counts (verdict.NotLinearizable blocked) →
+        IsBlockedText X name blocked text → NamesBlocked X name L how.level s bytes text
+    names_blocked s bytes how counts blocked text j b = go b.stuck b.are b.is
       where
+        lines : List (Line O)
+        lines = j.judged.lines
+
+        same : calls_of lines ≡ relax how.level j.calls
+        same = j.judged.relaxed
+
         kept : List (Line O)
         kept = blocked.calls.lines.items
 
@@ -238,21 +249,22 @@ module _ {S O R : Type 0} (X : Rules S O R) (name : O → List ℕ) where
 
         go : (stuck : List (Stuck R)) → AreStuck X state made (calls_of kept) stuck →
             text ≡ part_text name kept stuck ++ flat_map (stuck_text X kept) stuck →
-            NamesBlocked X name L s bytes text
-        go [] are is = absurd (some_stuck X state made (calls_of kept) are j.judged.1.is.stuck)
+            NamesBlocked X name L how.level s bytes text
+        go [] are is = absurd (some_stuck X state made (calls_of kept) are j.judged.judged.1.is.stuck)
         go (first ∷ rest) are is =
-            let for = j.judged.1.for in
-            let found = first_stuck X state made (calls_of kept) first rest are j.judged.1.is.stuck in
-            let here = is_kept j.lines kept for first.place j.numbered j.judged.1.is.kept found.within in
+            let for = j.judged.judged.1.for in
+            let found = first_stuck X state made (calls_of kept) first rest are j.judged.judged.1.is.stuck in
+            let here = is_kept lines kept for first.place j.judged.numbered j.judged.judged.1.is.kept found.within in
             record {
-              calls = calls_of j.lines;
+              calls = j.calls;
               are = j.are;
               for = for;
-              none = λ order. j.judged.1.is.none (subst (IsLinearizable X (s for))
-                  (part_lines name for j.lines) order);
+              none = λ order. j.judged.judged.1.is.none (subst (IsLinearizable X (s for))
+                  (part_lines name for lines)
+                  (subst (λ cs. IsLinearizable X (s for) (part name for cs)) (sym same) order));
               place = here.number.place;
               call = call_of here.line;
-              is = here.number.is;
+              is = subst (λ cs. IsCallAt cs here.number.place (call_of here.line)) same here.number.is;
               own = here.own;
               completed = ap is_completed (sym here.call) ∙ found.completed;
               expected = first.expected;
@@ -263,19 +275,21 @@ module _ {S O R : Type 0} (X : Rules S O R) (name : O → List ℕ) where
                   (here.number_is ∙ here.number.number) here.name_is;
             }
 
-    names_by : (s : List ℕ → S) (bytes : List ℕ) (steps : ℕ) (counts : Counts) (v : Verdict O S) (text : List ℕ) →
-        IsJudgedText X name L s bytes steps counts v → IsTextOn X name counts v text → NamesBy X name L s bytes v text
-    names_by s bytes steps counts (verdict.NotLinearizable blocked) text j b =
-        names_blocked s bytes steps counts blocked text j b
-    names_by s bytes steps counts verdict.Linearizable text j b = tt
-    names_by s bytes steps counts (verdict.OutOfTurn place) text j b = tt
-    names_by s bytes steps counts (verdict.Unknown open_) text j b = tt
-    names_by s bytes steps counts verdict.Touching text j b = tt
+    names_by : (s : List ℕ → S) (bytes : List ℕ) (how : Settings) (counts : Counts) (v : Verdict O S)
+        (text : List ℕ) → IsJudgedText X name L how s bytes counts v → IsTextOn X name counts v text →
+        NamesBy X name L how.level s bytes v text
+    names_by s bytes how counts (verdict.NotLinearizable blocked) text j b =
+        names_blocked s bytes how counts blocked text j b
+    names_by s bytes how counts verdict.Linearizable text j b = tt
+    names_by s bytes how counts (verdict.OutOfTurn place) text j b = tt
+    names_by s bytes how counts (verdict.Unknown open_) text j b = tt
+    names_by s bytes how counts verdict.Touching text j b = tt
 
 module _ {S O R : Type 0} (X : Rules S O R) (name : O → List ℕ)
     (naming : List (Call O) → (List ℕ → List ℕ) → Type 0) (L : Language O R) where
-  pub names_if_blocked : (s : List ℕ → S) (bytes : List ℕ) (steps : ℕ) (v : TextVerdict O S) (text : List ℕ) →
-      IsVerdictOnText X name naming L s bytes steps v → IsTextOf X name v text → NamesIfBlocked X name L s bytes v text
-  names_if_blocked s bytes steps (Judged names counts v) text j b =
-      names_by X (for_object (object_of names) name) L s bytes steps counts v text j.1 b
-  names_if_blocked s bytes steps (Fault number fault) text j b = tt
+  pub names_if_blocked : (s : List ℕ → S) (bytes : List ℕ) (how : Settings) (v : TextVerdict O S) (text : List ℕ) →
+      IsVerdictOnText X name naming L s bytes how v → IsTextOf X name v text →
+      NamesIfBlocked X name L how.level s bytes v text
+  names_if_blocked s bytes how (Judged names counts v) text j b =
+      names_by X (for_object (object_of names) name) L s bytes how counts v text j.1 b
+  names_if_blocked s bytes how (Fault number fault) text j b = tt

@@ -12,6 +12,7 @@ use Rattle.judge_search.specs.Point.{made_of}
 use Rattle.judge_search.specs.Stuck.{AreStuck}
 use Rattle.judge_text.specs.declared.parts.Blocked.{Blocked}
 use Rattle.judge_text.specs.declared.judging.TextVerdict.{TextVerdict}
+use Rattle.judge_text.specs.declared.settings.Settings.{Settings}
 use Rattle.judge_text.specs.declared.verdict.Outcome.{Outcome}
 use Rattle.judge_text.specs.Language.{Language}
 use Rattle.judge_text.specs.Judging.{IsVerdictOnText, DecidesLegal}
@@ -57,17 +58,18 @@ module _ {S O R : Type 0} (X : Rules S O R) (name : O → List ℕ) where
 module _ {S O R : Type 0} (X : Rules S O R) (name : O → List ℕ)
     (naming : List (Call O) → (List ℕ → List ℕ) → Type 0) where
   -- a verdict holds, and its text was printed
-  pub judged : {E : Type 0} (L : Language O R) (s : List ℕ → S) (steps : ℕ) (bytes : List ℕ) (v : TextVerdict O S) →
-      IsVerdictOnText X name naming L s bytes steps v → DecidesLegal X name naming L s bytes v →
+  pub judged : {E : Type 0} (L : Language O R) (s : List ℕ → S) (how : Settings) (bytes : List ℕ)
+      (v : TextVerdict O S) →
+      IsVerdictOnText X name naming L s bytes how v → DecidesLegal X name naming L how.level s bytes v →
       (r : Result (Outcome × Vec ℕ) E) → IfOk r (λ p. p.0 ≡ outcome_of v) →
       IfOk r (λ p. IsTextOf X name v p.1.items) →
-      IfOk r (λ p. JudgesText X name naming L s steps bytes p.0 p.1.items)
-  judged L s steps bytes v is decides (Ok p) k t = record {
+      IfOk r (λ p. JudgesText X name naming L s how bytes p.0 p.1.items)
+  judged L s how bytes v is decides (Ok p) k t = record {
     verdict = v;
     is = is;
     decides = decides;
     kind = k;
     text_is = t;
-    names = names_if_blocked X name naming L s bytes steps v p.1.items is t;
+    names = names_if_blocked X name naming L s bytes how v p.1.items is t;
   }
-  judged L s steps bytes v is decides (Err e) k t = tt
+  judged L s how bytes v is decides (Err e) k t = tt

@@ -17,3 +17,4 @@ pub mod Classing
 pub mod ByObject
 pub mod Turns
 pub mod Verdict
+pub mod Relaxing

@@ -8,6 +8,7 @@ use Rattle.vac_lines.specs.declared.stream_fault.StreamFault.TheVariants as faul
 use Rattle.judge_object.specs.Rules.{Rules}
 use Rattle.judge_object.specs.Call.{Call}
 use Rattle.judge_text.specs.declared.judging.TextVerdict.{TextVerdict}
+use Rattle.judge_text.specs.declared.settings.Settings.{Settings}
 use Rattle.judge_text.specs.declared.verdict.Outcome.{Outcome}
 use Rattle.judge_text.specs.declared.verdict.Outcome.TheVariants as outcome
 use Rattle.judge_text.specs.Language.{Language}
@@ -36,16 +37,16 @@ fault_line fault.Bound = as_line (codes "fault bound")
 
 module _ {S O R : Type 0} (X : Rules S O R) (name : O → List ℕ)
     (naming : List (Call O) → (List ℕ → List ℕ) → Type 0) (L : Language O R)
-    (s : List ℕ → S) (steps : ℕ) where
+    (s : List ℕ → S) (how : Settings) where
   -- some verdict holds of the bytes; this is its kind, and this its text, which names a blocked
   -- call if the calls of an object have no linearization
   pub record JudgesText (bytes : List ℕ) (result : Outcome) (text : List ℕ) : Type 0 where
     pub verdict : TextVerdict O S
-    pub is : IsVerdictOnText X name naming L s bytes steps verdict
-    pub decides : DecidesLegal X name naming L s bytes verdict
+    pub is : IsVerdictOnText X name naming L s bytes how verdict
+    pub decides : DecidesLegal X name naming L how.level s bytes verdict
     pub kind : result ≡ outcome_of verdict
     pub text_is : IsTextOf X name verdict text
-    pub names : NamesIfBlocked X name L s bytes verdict text
+    pub names : NamesIfBlocked X name L how.level s bytes verdict text
 
   -- the input was read to its end, exactly the text of a verdict on its bytes was written, and the
   -- kind of that verdict was returned
@@ -84,7 +85,7 @@ module _ {S O R : Type 0} (X : Rules S O R) (name : O → List ℕ)
   -- names the fault
   pub record HasEndedByFault (status : ℕ) (unread left held holds : Option (List ℕ)) : Type 0 where
     pub fault : StreamFault
-    pub status_is : status ≡ 2
+    pub status_is : status ≡ 4
     pub middle : Option (List ℕ)
     pub stopped : HasStopped fault unread left held middle
     pub line : AppendsPrefix middle holds (fault_line fault)

@@ -5,6 +5,7 @@ use Rattle.std.specs.Ordering.{nat_cmp}
 use Rattle.std.specs.FinMap.{FinMap, get}
 use Rattle.judge_object.specs.Order as spans
 use Rattle.judge_object.specs.Call.{Call, span_of, EachCall}
+use Rattle.judge_object.specs.Relaxed.{PendingAreLast}
 use Rattle.judge_search.specs.Walk.{IsWhole}
 use Rattle.judge_text.specs.declared.turns.Standing.{Standing}
 use Rattle.judge_text.specs.declared.turns.Standing.TheVariants.{Breaks, Touches, Follows}
@@ -61,3 +62,4 @@ module _ {O : Type 0} where
   AreTurns calls (Broken place) = IsFirstOutOfTurn calls place
   AreTurns calls (Held strict) =
       IsWhole calls × (strict ≡ true → AreStrict calls) × (strict ≡ false → AreStrict calls → ⊥)
+      × PendingAreLast calls

@@ -23,7 +23,7 @@ pub struct Counts {
 }
 
 /// Returns the number of clients that made the calls of these lines.
-fn count_clients<O>(alloc: Global, lines: &[Line<O>]) -> Result<u64, AllocError>
+pub(crate) fn count_clients<O>(alloc: Global, lines: &[Line<O>]) -> Result<u64, AllocError>
     ensures { IfOk result (λ count. count ≡ clients_in (calls_of lines.now)) }
 {
     let mut clients = BTreeSet::new(alloc);
@@ -50,18 +50,19 @@ fn count_objects<M: Named>(
 }
 
 impl Counts {
-    /// Counts the calls, clients and objects of lines.
+    /// Counts the calls and objects of lines, of which the number of clients is known.
     pub(crate) fn of<M: Named>(
         alloc: Global,
+        clients: u64,
         names: &Names,
         lines: &[Line<M::Op>],
     ) -> Result<Counts, AllocError>
-        ensures { IfOk result (λ counts.
-            counts ≡ counts_of (for_object (object_of names.now) M.name) (calls_of lines.now)) }
+        ensures { IfOk result (λ counts. counts ≡ record (counts_of
+            (for_object (object_of names.now) M.name) (calls_of lines.now)) { clients = clients }) }
     {
         Ok(Counts {
             calls: lines.len() as u64,
-            clients: count_clients(alloc, lines)?,
+            clients,
             objects: count_objects::<M>(alloc, names, lines)?,
         })
     }

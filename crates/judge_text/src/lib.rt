@@ -20,7 +20,9 @@ mod object_laws;
 mod parts;
 mod program;
 mod quoting;
+mod relaxing;
 mod runs;
+mod settings;
 mod starts;
 mod turns;
 mod verdict;
@@ -40,8 +42,9 @@ pub use object_laws::{
     a_linearizable_history_has_linearizable_parts, parts_make_a_linearizable_history,
 };
 pub use parts::{Blocked, Judged, Undecided, judge_parts};
-pub use program::{STEPS, end_by_fault, judge_history, judge_input, read_all};
+pub use program::{judge_history, judge_input, read_all};
 pub use quoting::{Quoted, read_quoted};
+pub use settings::Settings;
 pub use starts::Starts;
 pub use turns::{Turns, find_turns};
 pub use verdict::Outcome;

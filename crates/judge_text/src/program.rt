@@ -7,15 +7,14 @@ ghost use Rattle.judge_text.specs.Program as spec;
 ghost use Rattle.judge_text.specs.Program.{HasRead, JudgesText, HasJudged, HasStopped, HasEnded};
 
 use crate::judging::judge_text;
+use crate::settings::Settings;
 use crate::starts::Starts;
 use crate::verdict::{Outcome, print_verdict};
 use crate::worded::TextObject;
+use judge_object::Watcher;
 use std::alloc::{AllocError, Global};
 use std::io::{ErrorKind, Read, Write};
 use vac_lines::{CHUNK_BYTES, MOST_READS, StreamFault, write_and_flush};
-
-/// Most steps that [`judge_input`] lets the search make.
-pub const STEPS: u64 = 10_000_000;
 
 /// Status of a program whose history is legal.
 const LEGAL: u8 = 0;
@@ -23,11 +22,11 @@ const LEGAL: u8 = 0;
 /// Status of a program whose history is not legal.
 const ILLEGAL: u8 = 1;
 
-/// Status of a program that was stopped by a fault.
-const STOPPED: u8 = 2;
-
 /// Status of a program that did not decide.
 const UNDECIDED: u8 = 3;
+
+/// Status of a program that was stopped by a fault.
+const STOPPED: u8 = 4;
 
 /// Reads all bytes of the input. An interrupted read is retried.
 ///
@@ -59,43 +58,47 @@ pub fn read_all<R: Read>(alloc: Global, input: &mut R) -> Result<Vec<u8>, Stream
 }
 
 /// Judges a text, and returns the kind and the text of the verdict.
-fn find_text<M: TextObject + Drop>(
+fn find_text<M: TextObject + Drop, P: Watcher>(
     alloc: Global,
     starts: &Starts<M>,
-    steps: u64,
+    how: Settings,
     text: &[u8],
+    watcher: &mut P,
 ) -> Result<(Outcome, Vec<u8>), AllocError>
     ensures { IfOk result (λ found.
-        JudgesText M.rules M.name M.naming M.language (start_of starts.now) steps
+        JudgesText M.rules M.name M.naming M.language (start_of starts.now) how
         text.now found.0 found.1.items) }
 {
-    let verdict = judge_text(alloc, text, starts, steps, &mut ())?;
+    let verdict = judge_text(alloc, text, starts, how, watcher)?;
     print_verdict::<M>(alloc, &verdict)
 }
 
 /// Reads the input to its end, judges it as a history of objects, each of which begins in the state
-/// that is given for its name, in at most `steps` steps, and writes the text of the verdict.
+/// that is given for its name, as the settings say, and writes the text of the verdict.
 /// Returns its kind.
 ///
 /// After a fault of the output a prefix of the text was written, after any other fault nothing.
-pub fn judge_history<M: TextObject + Drop, R: Read, W: Write>(
+///
+/// Not said: the reports to the watcher.
+pub fn judge_history<M: TextObject + Drop, R: Read, W: Write, P: Watcher>(
     alloc: Global,
     starts: &Starts<M>,
-    steps: u64,
+    how: Settings,
     input: &mut R,
     output: &mut W,
+    watcher: &mut P,
 ) -> Result<Outcome, StreamFault>
     ensures ok { IfOk result (λ outcome.
-        HasJudged M.rules M.name M.naming M.language (start_of starts.now) steps outcome
+        HasJudged M.rules M.name M.naming M.language (start_of starts.now) how outcome
         (R.remaining input.old) (R.remaining input.new)
         (W.contents output.old) (W.contents output.new)) }
     ensures err { IfErr result (λ fault.
-        HasStopped M.rules M.name M.naming M.language (start_of starts.now) steps fault
+        HasStopped M.rules M.name M.naming M.language (start_of starts.now) how fault
         (R.remaining input.old) (R.remaining input.new)
         (W.contents output.old) (W.contents output.new)) }
 {
     let bytes = read_all(alloc, input)?;
-    let (outcome, text) = find_text(alloc, starts, steps, bytes.as_slice())?;
+    let (outcome, text) = find_text(alloc, starts, how, bytes.as_slice(), watcher)?;
     write_and_flush(output, text.as_slice())?;
     Ok(outcome)
 }
@@ -127,8 +130,8 @@ fn fault_line(fault: StreamFault) -> &'static [u8]
 /// Writes the line of a fault, and returns the status of a program that a fault stopped. A failed
 /// write changes nothing.
 #[tactic(auto, using(crate::proofs::Ending::either_way))]
-pub fn end_by_fault<W: Write>(fault: StreamFault, output: &mut W) -> u8
-    ensures status { result ≡ 2 }
+fn end_by_fault<W: Write>(fault: StreamFault, output: &mut W) -> u8
+    ensures status { result ≡ 4 }
     ensures line { AppendsPrefix (W.contents output.old) (W.contents output.new)
         (spec.fault_line fault) }
 {
@@ -137,20 +140,24 @@ pub fn end_by_fault<W: Write>(fault: StreamFault, output: &mut W) -> u8
 }
 
 /// Judges the input as a history of objects, each of which begins in the state that is given for
-/// its name, in at most [`STEPS`] steps, and writes the text of the verdict, or after a fault its
-/// line. Returns the status of a program: 0 if the history is legal, 1 if it is not, 2 after a
-/// fault, 3 if neither is known.
-pub fn judge_input<M: TextObject + Drop, R: Read, W: Write>(
+/// its name, as the settings say, and writes the text of the verdict, or after a fault its line.
+/// Returns the status of a program: 0 if the history is legal, 1 if it is not or a line is no
+/// call, 3 if neither is known, 4 after a fault.
+///
+/// Not said: the reports to the watcher.
+pub fn judge_input<M: TextObject + Drop, R: Read, W: Write, P: Watcher>(
     alloc: Global,
     starts: &Starts<M>,
+    how: Settings,
     input: &mut R,
     output: &mut W,
+    watcher: &mut P,
 ) -> u8
-    ensures { HasEnded M.rules M.name M.naming M.language (start_of starts.now) STEPS result
+    ensures { HasEnded M.rules M.name M.naming M.language (start_of starts.now) how result
         (R.remaining input.old) (R.remaining input.new)
         (W.contents output.old) (W.contents output.new) }
 {
-    match judge_history(alloc, starts, STEPS, input, output) {
+    match judge_history(alloc, starts, how, input, output, watcher) {
         Ok(outcome) => status_of(outcome),
         Err(fault) => end_by_fault(fault, output),
     }

@@ -54,7 +54,8 @@ fn stands<O>(ends: &Ends, line: &Line<O>) -> Standing
     }
 }
 
-/// How the calls of these lines stand, each client's being in their order.
+/// How the calls of these lines stand, each client's being in their order. If all are in turn, a
+/// pending call is its client's last one.
 pub fn find_turns<O: Drop>(alloc: Global, lines: &[Line<O>]) -> Result<Turns, AllocError>
     ensures { IfOk result (λ turns. AreTurns (calls_of lines.now) turns) }
 {

@@ -274,8 +274,7 @@ module _ (lawful : RecordLaw) (lk : ℕ → ℕ) (image : List ℕ) (last stripe
           begins_next k es n (acts k (tick from tag writes)) here in
           at_least_more it.attempt.ticks n (λ m. LosesTickAt lk start es k it.attempt.number m × (m < n))
           (λ m. LosesTickAt lk start es k it.attempt.number m × (m < suc n))
-          (λ m p. (p.0, (let z = p.1 in omega (arith, z)))) (λ p. (let z = p.1 in omega (arith, z)))
-          (
+          (λ m p. (p.0, (let z = p.1 in omega (arith, z)))) (λ p. (let z = p.1 in omega (arith, z))) (
             (
               from,
               tag,

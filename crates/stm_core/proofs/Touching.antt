@@ -124,10 +124,10 @@ module _ (lawful : RecordLaw) (lk : ℕ → ℕ) (image : List ℕ) (last stripe
             (l, (p.0, p.2, p.5)),
           ),
           (let c = begins_more k es (suc from) (suc n) (omega (arith, first)) in
-          let d = begins_more k es (suc n) (suc to) (omega (arith, second)) in
-          let e = b.1 in
-          let f = shown.0.1 in
-          let z : begins k es (suc n) ≡ a = omega (arith, c, d, e, f) in z),
+              let d = begins_more k es (suc n) (suc to) (omega (arith, second)) in
+              let e = b.1 in
+              let f = shown.0.1 in
+              let z : begins k es (suc n) ≡ a = omega (arith, c, d, e, f) in z),
         )
 
     counted : (count : ℕ) → AtLeast count (MeetsFreshConflict lk start es k low high) → AtLeast count Step

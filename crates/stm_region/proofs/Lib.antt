@@ -9,3 +9,5 @@ pub mod Laws
 pub mod Extending
 pub mod Probing
 pub mod Timing
+mod Freshness
+mod RunsCaused

@@ -107,7 +107,7 @@ in_kept true l x m = m
 in_kept false l x m = absurd (not_in x m)
 
 -- a client's records are of earlier renewals, or of versions that the clock has reached
-earlier : (lawful : RecordLaw) (l : ℕ → ℕ) (c : Core) → Rule lawful l c → (i : ℕ) (v : Client) →
+pub earlier : (lawful : RecordLaw) (l : ℕ → ℕ) (c : Core) → Rule lawful l c → (i : ℕ) (v : Client) →
     get_elem? c.clients i ≡ some v → AreEarlier c.renewal c.clock v.records
 earlier lawful l c h i v at x m = elim (in_append _ _ x (subst (In x) (h.past.kept i v at) m)) [
   | inl p ↦ old (h.past.earlier x (in_kept _ c.past x p))

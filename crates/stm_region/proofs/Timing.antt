@@ -255,7 +255,7 @@ module _ {lawful : RecordLaw} {moments : ℕ → Moment} {moves : ℕ → Move} 
 
   module _ {fits : List ℕ → Type 0} (run : IsRun fits lawful moments moves) where
     -- a move finds the word that the event finds
-    finds : (n i : ℕ) (action : Action) → moves n ≡ step i action →
+    pub finds : (n i : ℕ) (action : Action) → moves n ≡ step i action →
         word_at (moments n) action ≡ found (stripe_of (moments n).opened.stripes) (one.lists n).core action
     finds n i action is =
         let t = one.lists n in

@@ -9,3 +9,5 @@ pub mod Closed
 pub mod Renewed
 pub mod Runs
 pub mod RealTime
+pub mod Fresh
+pub mod Caused

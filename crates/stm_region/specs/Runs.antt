@@ -151,7 +151,15 @@ EveryListGoesOn fits lawful =
     → Stands fits lawful m'
     × ((t : Listing lawful m) → (t' : Listing lawful m') × GoesOn lawful t move t')
 
--- a run of a region from a state that meets its invariant
+-- a run of a region from a state that meets its invariant. These calls of `Region` make one move
+-- each: `begin`, `probe`, `probe_to_lock`, `fetch`, `check`, `lock`, `tick`, `validate`, `put`,
+-- `release`, `give_back` and `finish` make a step, `split` a split, `gather` a gathering, and
+-- `renew` a renewal. No other call makes a move
+-- Not said: that the states between the accesses of a program's threads are a run. Which state of
+-- the table an access meets is known to `atomic_table` alone, so no contract of a call can name it.
+-- A client's value has no position in the list either. So a `begin` that returned the clock of an
+-- earlier state would meet its contract, if some list of allowed events leads to the region's state
+-- and has the client begin in that earlier state.
 pub record IsRun (fits : List ℕ → Type 0) (lawful : RecordLaw) (moments : ℕ → Moment)
     (moves : ℕ → Move) : Type 0 where
   pub begins : Stands fits lawful (moments 0)

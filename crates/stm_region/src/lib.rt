@@ -7,6 +7,7 @@
 #![tactic(auto)]
 
 mod accesses;
+mod causation;
 mod client;
 mod close;
 mod fault;
@@ -22,6 +23,7 @@ mod steps;
 mod version;
 mod view;
 
+pub use causation::{conflicts_of_calls_have_causes, conflicts_of_runs_have_causes};
 pub use client::Client;
 pub use fault::RegionFault;
 pub use limits::{MOST_GRANTS, MOST_RENEWALS, MOST_STRIPES, MOST_WORDS, VERSION_LIMIT};
@@ -29,6 +31,6 @@ pub use probed::Probed;
 pub use region::Region;
 pub use renew::RenewFault;
 pub use rule::{
-    a_run_has_one_list, every_list_goes_on, gathering_keeps_all_grants, reads_are_of_one_version,
-    records_are_serial, running_threads_are_a_list, runs_keep_real_time,
+    a_run_has_one_list, begins_see_returned_calls, every_list_goes_on, gathering_keeps_all_grants,
+    reads_are_of_one_version, records_are_serial, running_threads_are_a_list, runs_keep_real_time,
 };

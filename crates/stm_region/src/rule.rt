@@ -9,6 +9,7 @@ ghost use Rattle.stm_region.specs.Rule.{Always, OfEach, OfEachTwo};
 ghost use Rattle.stm_region.specs.Running.{IsListed};
 ghost use Rattle.stm_region.specs.Runs.{EveryListGoesOn, EveryRunHasOneList};
 ghost use Rattle.stm_region.specs.RealTime.{EveryRunKeepsRealTime};
+ghost use Rattle.stm_region.specs.Fresh.{EveryBeginIsFresh};
 
 use stm_core::Law;
 
@@ -72,4 +73,14 @@ pub fn a_run_has_one_list<L: Law>()
 /// its accesses is one change of the table, and the step calls of `Region` say which.
 pub fn runs_keep_real_time<L: Law>()
     ensures { EveryRunKeepsRealTime L.fits L.lawful }
+{}
+
+/// States that in a run an attempt begins at a version which is at least that of every record that
+/// any client has in that state. So the attempt reads what each call has written that had returned
+/// before the attempt began, whichever client made the call.
+///
+/// Not said: that the moves of a program's threads are such a run; see
+/// [`runs_keep_real_time`](crate::runs_keep_real_time).
+pub fn begins_see_returned_calls<L: Law>()
+    ensures { EveryBeginIsFresh L.fits L.lawful }
 {}

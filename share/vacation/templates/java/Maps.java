@@ -1,7 +1,7 @@
-// Threads over a lock-free map, and the history of their calls for the program kv_judge:
+// Threads over a lock-free map, and the history of their calls for 'judge keys':
 //
 //     javac -d . share/vacation/templates/java/Maps.java
-//     java Maps > history && ./kv_judge < history
+//     java Maps > history && ./judge keys < history
 //
 // The map is the library's ConcurrentHashMap. With --mistake its replace and remove look first and write then, so that
 // two threads can both replace one value: the judge shall find that. For another map change `map`, and call

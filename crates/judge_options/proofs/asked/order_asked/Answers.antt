@@ -1,4 +1,4 @@
-use Rattle.std.proofs.Common.{◌∙◌, sym, inr}
+use Rattle.std.proofs.Common.{◌∙◌, sym, inl, inr}
 use Rattle.judge_options.proofs.asked.order_asked.Goals as goal
 
 pub search_of-requires-clause-level : goal.search_of-requires-clause-level
@@ -14,4 +14,4 @@ returns-in-Some c = λ words names. (
 )
 
 pub returns-in-None : goal.returns-in-None
-returns-in-None c = λ words names. (_, inr names, sym c.level_of.ensures ∙ c.in-None.is)
+returns-in-None c = λ words names. (_, inr (inl names), sym c.level_of.ensures ∙ c.in-None.is)

@@ -3,6 +3,7 @@ use Rattle.std.proofs.Common.{subst, inl, inr, arith}
 use Rattle.std.proofs.lemmas.List.{take_more, take_all, take-map, map-append, length-map}
 use Rattle.judge_search.specs.Calls.{call_of, calls_of}
 use Rattle.judge_search.specs.Walk.{IsWhole}
+use Rattle.judge_object.specs.Relaxed.{PendingAreLast}
 use Rattle.judge_text.specs.Many.{AreStrict}
 use Rattle.judge_text.specs.Turns.{Stands, call_breaks_client}
 use Rattle.judge_text.proofs.Ends.{AreHeld, calls_get, held_none, held_more, held_whole, timed_of}
@@ -66,6 +67,6 @@ returns-in-Breaks g c =
 pub returns : goal.returns
 returns g c =
     subst (λ ls. IsWhole (calls_of ls) × (c.lines.is_strict ≡ true → AreStrict (calls_of ls))
-    × (c.lines.is_strict ≡ false → AreStrict (calls_of ls) → ⊥))
+    × (c.lines.is_strict ≡ false → AreStrict (calls_of ls) → ⊥) × PendingAreLast (calls_of ls))
     (take_all c.lines.place c.args.lines.now c.lines-test.false)
     (held_whole c.lines.ends (calls_of (take c.lines.place c.args.lines.now)) c.lines.is_strict c.lines.invariant)
