@@ -29,7 +29,8 @@ abbrev pub AreDistinct : List ℕ → Type 0
 AreDistinct [] = Unit {0}
 AreDistinct (n ∷ ns) = (In n ns → ⊥) × AreDistinct ns
 
--- at least this many numbers are of a kind: some list has so many different ones
+-- at least this many numbers are of a kind: some list of this length has different numbers, each
+-- of the kind
 abbrev pub AtLeast : (count : ℕ) → (ℕ → Type 0) → Type 0
 AtLeast count IsOfKind =
     (numbers : List ℕ) × (length numbers ≡ count) × AreDistinct numbers
@@ -143,8 +144,8 @@ module _ (lk : ℕ → ℕ) (start : Core) (events : List Event) where
     pub alone : (n : ℕ) (e : Event) → from < n → n < to → get_elem? events n ≡ some e
         → actor e ≡ client
 
-  -- the lock is one of the attempt's stripes: some step of the attempt, up to and with that at the
-  -- place `to`, is on the lock
+  -- the lock is one of the attempt's stripes: some step of the attempt is on the lock, at the place
+  -- `to` or before
   abbrev pub IsStripe : (client attempt to lock : ℕ) → Type 0
   IsStripe k attempt to l =
       (n : ℕ) × (action : Action) × (n ≤ to) × IsStepOf events k attempt n action
@@ -159,7 +160,7 @@ module _ (lk : ℕ → ℕ) (start : Core) (events : List Event) where
     pub unreleased : (l : ℕ) → IsStripe client attempt to l
         → IsDoneByAnother client from to (ReleasesAt l) → ⊥
 
-  -- up to and with its step at the place `to` the attempt loses sixteen ticks
+  -- the attempt loses sixteen ticks, the last one with its step at the place `to` or before
   abbrev pub LosesAllTicks : (client attempt to : ℕ) → Type 0
   LosesAllTicks k attempt to =
       AtLeast MOST_TICKS (λ n. LosesTickAt k attempt n × (n ≤ to))

@@ -83,9 +83,10 @@ module _ (lk : ℕ → ℕ) (start : Core) (events : List Event) where
       × ShowsAt k attempt to action conflict × IsAtLock conflict l
       × ((j : ℕ) → j ≢ k → HoldsAt lk start events j l from → ⊥)
 
-  -- if so many attempts of a client meet conflicts at locks that nobody else held when the attempts
-  -- began, then other clients take or release locks as often in that time
-  -- Not said: that an attempt which meets several conflicts has several such steps of others.
+  -- conflicts are not more than steps of others. If at least `count` attempts of a client meet
+  -- conflicts at locks that no other client held when the attempts began, then other clients take
+  -- or release locks at `count` places or more in that time
+  -- Not said: that several conflicts of one attempt have several steps of others.
   abbrev pub ConflictsAreCounted : Type 0
   ConflictsAreCounted =
       (k low high count : ℕ) → AtLeast count (MeetsFreshConflict k low high)

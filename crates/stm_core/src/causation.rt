@@ -14,10 +14,10 @@ pub fn every_conflict_has_a_cause<L: Law>()
     ensures { EveryListIsProgressive L.lawful }
 {}
 
-/// States that an attempt meets no conflict if no other client holds, takes or releases one of its
-/// stripes while it runs, and it loses fewer than [`MOST_TICKS`](crate::MOST_TICKS) ticks. Its
-/// stripes are the locks of the words that it reads and writes. Other clients may commit to any
-/// other words meanwhile.
+/// States that an attempt meets no conflict if no other client holds, takes or releases one of the
+/// attempt's stripes while the attempt runs, and the attempt loses fewer than
+/// [`MOST_TICKS`](crate::MOST_TICKS) ticks. The stripes of an attempt are the locks of the words
+/// that it reads and writes. Other clients may commit to any other words meanwhile.
 ///
 /// Not said: that the attempt commits. It may stop between two steps, and it may give its locks
 /// back on its own account.
@@ -25,16 +25,16 @@ pub fn untouched_attempts_meet_no_conflict<L: Law>()
     ensures { OfEveryList L.lawful UntouchedMeetsNone }
 {}
 
-/// States that conflicts are not more than their causes. If n attempts of a client meet conflicts
-/// at locks that nobody else held when the attempts began, then other clients take or release locks
-/// at n steps or more in that time.
+/// States that conflicts are not more than steps of others. If n attempts of a client meet
+/// conflicts at locks that no other client held when the attempts began, then other clients take or
+/// release locks at n steps or more in that time.
 pub fn conflicts_have_as_many_steps_of_others<L: Law>()
     ensures { OfEveryList L.lawful ConflictsAreCounted }
 {}
 
 /// States that a spent clock stops every attempt that holds a lock and has won no tick, also if no
-/// other client is there. No step decides the attempt. The attempt can only give its locks back,
-/// which is no conflict.
+/// other client is there. No step decides the attempt. To end, the attempt must give its locks
+/// back, which is no conflict.
 pub fn a_spent_clock_decides_no_writer<L: Law>()
     ensures { OfEveryList L.lawful SpentClockDecidesNone }
 {}
