@@ -1,6 +1,7 @@
 -- Locks that are released after the stores.
 use Rattle.std.proofs.Common.{◌≡◌, false, sym, ap, subst, ◌∙◌, ℕ, suc, ◌+◌, ◌-◌, List, [], ◌∷◌, ◌++◌, append_assoc}
-use Rattle.std.proofs.Common.{length, take, arith, Some}
+use Rattle.std.proofs.Common.{length, take, arith, Some, refl}
+use Rattle.std.proofs.lemmas.List.{length-map}
 use Rattle.std.proofs.Math.Seq.{take-length}
 use Rattle.std.specs.FinMap.{get}
 use Rattle.tx_memory.specs.Image.{In}
@@ -24,6 +25,22 @@ pub record IsReleasing (v v' : Client) (rest all : List ℕ) : Type 0 where
   pub stored : v'.attempt.stored ≡ v.attempt.stored
   pub held : addresses v'.attempt.held ≡ rest
   pub steps : v'.attempt.steps + length rest ≡ v.attempt.steps + length v.attempt.held
+
+-- before the first release
+pub releasing_none : (v : Client) (rest all : List ℕ) → rest ≡ all → addresses v.attempt.held ≡ all →
+    IsReleasing v v rest all
+releasing_none v rest all is held = record {
+  gone = [];
+  order = is;
+  same = refl;
+  stored = refl;
+  held = held ∙ sym is;
+  steps =
+      let pairs : length (addresses v.attempt.held) ≡ length v.attempt.held =
+      length-map v.attempt.held (λ (p : ℕ × ℕ). p.0) in
+      let locks : length (addresses v.attempt.held) ≡ length rest = ap length (held ∙ sym is) in
+      omega (arith, pairs, locks);
+}
 
 module _ (lawful : RecordLaw) (t : Stamp) (lk : ℕ → ℕ) (b : Bounds) (w : LogValue) (v0 v : Client) (k : ℕ)
     (now rest : List ℕ) (releasing : IsReleasing v0 v now (log_locks w)) (next : now ≡ k ∷ rest) where

@@ -17,3 +17,7 @@ pub mod ClearLemmas
 pub mod StripeLemmas
 pub mod MarkLemmas
 pub mod Crosses
+pub mod KeyLemmas
+pub mod ShortLemmas
+pub mod WalkLemmas
+pub mod WriteLemmas

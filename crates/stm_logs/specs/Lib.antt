@@ -8,3 +8,5 @@ pub mod Order
 pub mod Held
 pub mod Marks
 pub mod Chain
+pub mod Keys
+pub mod Short

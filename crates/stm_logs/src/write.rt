@@ -1,12 +1,13 @@
 //! The write log: the addresses that a transaction has written, with their values and locks.
-ghost use Rattle.std.specs.Prelude.{◌≡◌, ◌≢◌, ◌↔◌, ℕ, ◌<◌, ◌≤◌, IsOk, None, Some, length, slice_index, true};
+ghost use Rattle.std.specs.Prelude.{◌≡◌, ◌≢◌, ◌↔◌, ℕ, ◌<◌, ◌≤◌, IsOk, None, Some, length, true};
 ghost use Rattle.std.specs.FinMap.{get, len};
 ghost use Rattle.stm_logs.specs.Refusals.{Becomes};
 ghost use Rattle.stm_logs.specs.Held.{with_word};
 ghost use Rattle.stm_logs.specs.Log.{LogValue, empty_log, log_locks, pairs_by_lock, pairs_of, SameAddresses};
 
-use crate::chain::{Locks, Pairs, Words};
-use crate::table::Table;
+use crate::long::LongLog;
+use crate::short::{ShortLog, lengthen};
+use crate::walks::{Locks, Pairs, Words};
 use std::alloc::{AllocError, Allocator, Global};
 use std::marker::Model;
 use stm_core::Writes;
@@ -14,10 +15,13 @@ use tx_memory::Addr;
 
 /// A finite map from addresses to values, with the number of each address's lock. The log keeps
 /// its memory when it is cleared.
+///
+/// A log begins as a short log, and becomes a long one at a word that the short log does not take.
 #[derive(Drop)]
 pub struct WriteLog<A: Allocator + Copy = Global> {
-    alloc: A,
-    table: Option<Table<A>>,
+    short: ShortLog,
+    long: LongLog<A>,
+    is_long: bool,
 }
 
 impl<A: Allocator + Copy> Writes for WriteLog<A> {
@@ -27,24 +31,31 @@ impl<A: Allocator + Copy> Writes for WriteLog<A> {
 }
 
 impl<A: Allocator + Copy> Model for WriteLog<A> {
-    ghost use Rattle.std.specs.Prelude.{◌≡◌};
-    ghost use Rattle.stm_logs.specs.Log.{LogValue, log_code};
+    ghost use Rattle.std.specs.Prelude.{◌≡◌, true, false};
+    ghost use Rattle.stm_logs.specs.Log.{LogValue, empty_log, log_code};
 
     ghost Value = { LogValue };
 
     ghost coded = { log_code };
 
-    ghost use Rattle.stm_logs.specs.Held.{held_value};
+    ghost use Rattle.stm_logs.specs.Short.{written, IsShort};
 
-    ghost view = { λ w. held_value w.table };
+    ghost view = { λ w. written w.short w.long w.is_long };
+
+    ghost invariant = { λ w. IsShort w.short × (w.is_long ≡ true → w.short.count ≡ 0)
+        × (w.is_long ≡ false → w.long ≡ empty_log) };
 }
 
 impl<A: Allocator + Copy> WriteLog<A> {
-    /// Creates an empty log. The log takes no memory until the first address.
+    /// Creates an empty log. A log takes no memory until it becomes long.
     pub fn new(alloc: A) -> WriteLog<A>
         ensures { result ≡ empty_log }
     {
-        WriteLog { alloc, table: None }
+        WriteLog {
+            short: ShortLog::new(),
+            long: LongLog::new(alloc),
+            is_long: false,
+        }
     }
 
     /// Returns the number of addresses.
@@ -52,9 +63,10 @@ impl<A: Allocator + Copy> WriteLog<A> {
     pub fn len(&self) -> usize
         ensures { result ≡ len self.now.words }
     {
-        match &self.table {
-            Some(table) => table.len(),
-            None => 0,
+        if self.is_long {
+            self.long.len()
+        } else {
+            self.short.len()
         }
     }
 
@@ -70,20 +82,14 @@ impl<A: Allocator + Copy> WriteLog<A> {
         ensures answer { Becomes result self.old self.new (with_word self.old addr.0 lock value) }
         ensures there { get self.old.words addr.0 ≢ None → IsOk result }
     {
-        match &mut self.table {
-            Some(table) => table.put(addr.0, lock, value),
-            None => self.put_first(addr, lock, value),
+        if !self.is_long {
+            if self.short.put(addr.0, lock, value) {
+                return Ok(());
+            }
+            lengthen(&mut self.short, &mut self.long)?;
+            self.is_long = true;
         }
-    }
-
-    /// Puts the first address of a log that has no table yet.
-    #[cold]
-    fn put_first(&mut self, addr: Addr, lock: u32, value: u64) -> Result<(), AllocError>
-        requires { self.old ≡ empty_log }
-        ensures { Becomes result self.old self.new (with_word self.old addr.0 lock value) }
-    {
-        self.table = Some(Table::with_word(self.alloc, addr.0, lock, value)?);
-        Ok(())
+        self.long.put(addr, lock, value)
     }
 
     /// Returns the value that was put at the address.
@@ -91,9 +97,10 @@ impl<A: Allocator + Copy> WriteLog<A> {
     pub fn get(&self, addr: Addr) -> Option<u64>
         ensures { result ≡ get self.now.words addr.0 }
     {
-        match &self.table {
-            Some(table) => table.get(addr.0),
-            None => None,
+        if self.is_long {
+            self.long.get(addr)
+        } else {
+            self.short.get(addr.0)
         }
     }
 
@@ -102,9 +109,10 @@ impl<A: Allocator + Copy> WriteLog<A> {
     pub fn has_lock(&self, lock: u32) -> bool
         ensures { (result ≡ true) ↔ ((a : ℕ) × (get self.now.locks a ≡ Some lock)) }
     {
-        match &self.table {
-            Some(table) => table.has_lock(lock),
-            None => false,
+        if self.is_long {
+            self.long.has_lock(lock)
+        } else {
+            self.short.word_of(lock) != 0
         }
     }
 
@@ -127,13 +135,11 @@ impl<A: Allocator + Copy> WriteLog<A> {
     pub fn locks(&self) -> Locks<'_, A>
         ensures { result ≡ log_locks self.now }
     {
-        match &self.table {
-            Some(table) => table.locks(),
-            None => Locks {
-                nodes: None,
-                at: 0,
-                most: 0,
-            },
+        Locks {
+            short: &self.short,
+            at: 0,
+            left: self.short.len(),
+            long: self.long.locks(),
         }
     }
 
@@ -142,14 +148,10 @@ impl<A: Allocator + Copy> WriteLog<A> {
     pub fn words_of(&self, lock: u32) -> Words<'_, A>
         ensures { result ≡ pairs_of self.now lock }
     {
-        match &self.table {
-            Some(table) => table.words_of(lock),
-            None => Words {
-                nodes: None,
-                lock,
-                at: 0,
-                most: 0,
-            },
+        Words {
+            short: &self.short,
+            position: self.short.word_of(lock),
+            long: self.long.words_of(lock),
         }
     }
 
@@ -159,13 +161,11 @@ impl<A: Allocator + Copy> WriteLog<A> {
     pub fn pairs_by_lock(&self) -> Pairs<'_, A>
         ensures { result ≡ pairs_by_lock self.now }
     {
-        match &self.table {
-            Some(table) => table.pairs_by_lock(),
-            None => Pairs {
-                nodes: None,
-                at: 0,
-                most: 0,
-            },
+        Pairs {
+            short: &self.short,
+            at: 0,
+            left: self.short.len(),
+            long: self.long.pairs_by_lock(),
         }
     }
 
@@ -174,8 +174,10 @@ impl<A: Allocator + Copy> WriteLog<A> {
     pub fn clear(&mut self)
         ensures { self.new ≡ empty_log }
     {
-        if let Some(table) = &mut self.table {
-            table.clear();
+        self.short.clear();
+        if self.is_long {
+            self.long.clear();
+            self.is_long = false;
         }
     }
 
@@ -190,8 +192,10 @@ impl<A: Allocator + Copy> WriteLog<A> {
     pub fn same_addresses(&self)
         ensures { SameAddresses self.now }
     {
-        if let Some(table) = &self.table {
-            table.same_addresses();
+        if self.is_long {
+            self.long.same_addresses();
+        } else {
+            self.short.same_addresses();
         }
     }
 }

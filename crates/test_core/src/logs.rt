@@ -285,13 +285,14 @@ fn many_addresses(rt: HostRuntime) -> Result<(), Fail> {
 }
 
 /// Puts addresses until memory is refused. Returns the number of addresses that the log then has.
-fn put_some<A: Allocator + Copy>(log: &mut WriteLog<A>, count: u32) -> u32
-    requires { IsStriped log.old 1000000 }
-    ensures striped { IsStriped log.new 1000000 }
+fn put_some<A: Allocator + Copy>(log: &mut WriteLog<A>, stripes: u32, count: u32) -> u32
+    requires some { 0 < stripes }
+    requires striped { IsStriped log.old stripes }
+    ensures striped { IsStriped log.new stripes }
     ensures most { result ≤ count }
 {
     for addr in 0..count {
-        if put(log, 1_000_000, addr, addr as u64).is_err() {
+        if put(log, stripes, addr, addr as u64).is_err() {
             return addr;
         }
     }
@@ -299,32 +300,39 @@ fn put_some<A: Allocator + Copy>(log: &mut WriteLog<A>, count: u32) -> u32
 }
 
 /// Fills a log until memory is refused, puts one address again, and fills the log anew.
-fn fill_twice<A: Allocator + Copy>(rt: &impl Abort, heap: A, most: u32) {
+fn fill_twice<A: Allocator + Copy>(rt: &impl Abort, heap: A, stripes: u32, most: u32)
+    requires { 0 < stripes }
+{
     let mut log = new_log(heap);
-    let count = put_some(&mut log, 200);
+    let count = put_some(&mut log, stripes, 200);
     same(rt, &count, &most);
-    expect_all(rt, &log, 1_000_000, count);
+    expect_all(rt, &log, stripes, count);
     if count > 0 {
-        holds(rt, put(&mut log, 1_000_000, 0, 0).is_ok());
-        expect_all(rt, &log, 1_000_000, count);
+        holds(rt, put(&mut log, stripes, 0, 0).is_ok());
+        expect_all(rt, &log, stripes, count);
     }
     clear(&mut log);
-    let again = put_some(&mut log, 200);
+    let again = put_some(&mut log, stripes, 200);
     same(rt, &again, &count);
 }
 
-/// The heaps have room for no growth, for the first, and so on up to all of them.
+/// The heaps have room for no growth, for the first, and so on up to all of them. With a lock for
+/// each address a log is short up to 127 words, and takes no memory. With three locks it becomes
+/// long at the fourth word, whose lock has another remainder than its address.
 #[test]
 fn each_growth_of_the_write_log_is_refused(rt: HostRuntime) -> Result<(), Fail> {
-    for (size, most) in [
-        (1_000, 0),
-        (4_000, 31),
-        (9_000, 63),
-        (20_000, 127),
-        (40_000, 200),
+    for (size, stripes, most) in [
+        (1_000, 3, 3),
+        (4_000, 3, 31),
+        (9_000, 3, 63),
+        (20_000, 3, 127),
+        (40_000, 3, 200),
+        (1_000, 1_000_000, 127),
+        (20_000, 1_000_000, 127),
+        (40_000, 1_000_000, 200),
     ] {
         let heap = LocalHeap::new(rt.alloc(), size)?;
-        fill_twice(&rt, &heap, most);
+        fill_twice(&rt, &heap, stripes, most);
         same(&rt, &heap.used(), &0);
     }
     Ok(())

@@ -45,28 +45,28 @@ fn a_cleared_read_log_keeps_its_chunks(rt: HostRuntime) -> Result<(), Fail> {
 }
 
 fn new_log<A: Allocator + Copy>(alloc: A) -> WriteLog<A>
-    ensures { IsStriped result 1000 }
+    ensures { IsStriped result 10 }
 {
     WriteLog::new(alloc)
 }
 
 fn clear<A: Allocator + Copy>(log: &mut WriteLog<A>)
-    ensures { IsStriped log.new 1000 }
+    ensures { IsStriped log.new 10 }
 {
     log.clear();
 }
 
 fn put<A: Allocator + Copy>(log: &mut WriteLog<A>, addr: u32) -> bool
-    requires { IsStriped log.old 1000 }
-    ensures { IsStriped log.new 1000 }
+    requires { IsStriped log.old 10 }
+    ensures { IsStriped log.new 10 }
 {
-    log.put(Addr(addr), addr % 1_000, 7).is_ok()
+    log.put(Addr(addr), addr % 10, 7).is_ok()
 }
 
 /// Puts the addresses below `count` into the emptied log. Returns the number of addresses that the
 /// log took.
 fn put_again<A: Allocator + Copy>(log: &mut WriteLog<A>, count: u32) -> u32
-    ensures { IsStriped log.new 1000 }
+    ensures { IsStriped log.new 10 }
 {
     clear(log);
     for addr in 0..count {
@@ -77,7 +77,8 @@ fn put_again<A: Allocator + Copy>(log: &mut WriteLog<A>, count: u32) -> u32
     count
 }
 
-/// Another log takes the rest of the heap, and nothing more once the first log is cleared.
+/// The words share ten locks, so the log becomes long. Another log takes the rest of the heap, and
+/// nothing more once the first log is cleared.
 #[test]
 fn a_cleared_write_log_keeps_its_memory(rt: HostRuntime) -> Result<(), Fail> {
     let heap = LocalHeap::new(rt.alloc(), 20_000)?;

@@ -1,4 +1,5 @@
 //! Attempts whose logs cannot grow.
+ghost use Rattle.std.specs.Prelude.{◌<◌};
 
 use crate::same::{close, same, version};
 use linked_list_allocator::LocalHeap;
@@ -79,15 +80,28 @@ fn a_refused_read_leaves_the_attempt(rt: HostRuntime) -> Result<(), Fail> {
     Ok(())
 }
 
-/// Writes up to 200 words in an attempt whose logs take their memory from `logs_in`. Returns the
-/// number written, the refusal that followed, and the result of the commit.
-fn write_in<A: Allocator + Copy>(alloc: Global, logs_in: A) -> Result<Ended, RegionFault> {
+/// Returns one of 200 words, counted from the first one on or from the last one down.
+fn nth_of_200(i: u32, is_down: bool) -> Addr
+    requires { i < 200 }
+    ensures { result.0 < 200 }
+{
+    if is_down { Addr(199 - i) } else { Addr(i) }
+}
+
+/// Writes up to 200 words, from the first one on or from the last one down, in an attempt whose
+/// logs take their memory from `logs_in`. Returns the number written, the refusal that followed,
+/// and the result of the commit.
+fn write_in<A: Allocator + Copy>(
+    alloc: Global,
+    logs_in: A,
+    is_down: bool,
+) -> Result<Ended, RegionFault> {
     let (region, mut client) = Region::<FreeLaw>::new(alloc, &[0; 200], 100, 64)?;
     let mut logs = Logs::new(logs_in);
     let mut attempt = Attempt::begin(&region, &mut client, &mut logs);
     let mut ended = (0, None);
     for i in 0..200 {
-        if let Err(refused) = attempt.write(Addr(i), 1) {
+        if let Err(refused) = attempt.write(nth_of_200(i, is_down), 1) {
             ended.1 = Some(refused);
             break;
         }
@@ -113,18 +127,24 @@ fn read_in<A: Allocator + Copy>(alloc: Global, logs_in: A) -> Result<Ended, Regi
     Ok((ended.0, ended.1, attempt.commit(&1u64, &mut NoGate)))
 }
 
-/// The heaps have room for no growth of the write log, for the first growth, and so on.
+/// The heaps have room for no growth of the write log, for the first growth, and so on. The region
+/// has 64 stripes: words 0 to 63 stay in a short log, which takes no memory, and the log becomes
+/// long at word 64. From word 199 down the log is long from the first word on.
 #[test]
 fn each_growth_is_refused_to_an_attempt_that_writes(rt: HostRuntime) -> Result<(), Fail> {
-    for (size, most) in [
-        (1_000, 0),
-        (4_000, 31),
-        (9_000, 63),
-        (20_000, 127),
-        (40_000, 200),
+    for (size, is_down, most) in [
+        (1_000, true, 0),
+        (4_000, true, 31),
+        (9_000, true, 63),
+        (20_000, true, 127),
+        (40_000, true, 200),
+        (1_000, false, 64),
+        (9_000, false, 64),
+        (20_000, false, 127),
+        (40_000, false, 200),
     ] {
         let heap = LocalHeap::new(rt.alloc(), size)?;
-        let found = write_in(rt.alloc(), &heap)?;
+        let found = write_in(rt.alloc(), &heap, is_down)?;
         let refused = (most < 200).then_some(Refusal::Memory);
         let committed = version(&rt, u64::from(most.min(1)));
         same(&rt, &found, &(most, refused, Ok(committed)));

@@ -1,8 +1,17 @@
 use Rattle.std.proofs.Common.{ap, ◌∙◌}
 use Rattle.stm_region.specs.Shown.{ClientShown, bounds, unplaced}
 use Rattle.stm_core.specs.Guards.{stripe_of}
-use Rattle.stm_attempt.proofs.Releasing.{may_release, release_logged, released_one}
+use Rattle.stm_attempt.proofs.Releasing.{may_release, release_logged, released_one, releasing_none}
 use Rattle.stm_attempt.proofs.storing.release_all.Goals as goal
+
+pub loop-lock-init : goal.loop-lock-init
+loop-lock-init g c = (
+  tt,
+  tt,
+  c.requires.own,
+  releasing_none c.args.client.now.value _ _ (c.into_iter-lock-iterator.ensures.into_iter_gives ∙
+      c.locks-lock-items.ensures) c.requires.held,
+)
 
 pub release-requires-clause-allowed : goal.release-requires-clause-allowed
 release-requires-clause-allowed g c =

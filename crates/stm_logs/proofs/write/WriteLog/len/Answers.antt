@@ -1,10 +1,12 @@
-use Rattle.std.proofs.Common.{ℕ, sym, ap, ◌∙◌}
-use Rattle.std.specs.FinMap.{len, len-empty}
-use Rattle.std.specs.Ordering.{nat_cmp}
+use Rattle.std.proofs.Common.{sym, ap, ◌∙◌}
+use Rattle.std.specs.FinMap.{len}
 use Rattle.stm_logs.specs.Log.{LogValue}
-use Rattle.stm_logs.proofs.LogLemmas.{held_none}
+use Rattle.stm_logs.proofs.ShortLemmas.{short_len}
+use Rattle.stm_logs.proofs.WriteLemmas.{short_value}
 use Rattle.stm_logs.proofs.write.WriteLog.len.Goals as goal
 
-pub returns-in-None : goal.returns-in-None
-returns-in-None g c = sym (ap (λ (w : LogValue). len w.words)
-    (held_none c.self.inside.table _ c.in-None.is c.self.view_is) ∙ len-empty nat_cmp ℕ)
+pub returns-else-self : goal.returns-else-self
+returns-else-self g c =
+    c.len-else-self.ensures ∙ sym (short_len c.self.inside.short c.self.invariant.0)
+    ∙ ap (λ (w : LogValue). len w.words) (short_value c.self.inside.short c.self.inside.long c.args.self.now
+    c.self.inside.is_long c.if-self.false c.self.view_is)

@@ -1,0 +1,6 @@
+use Rattle.stm_logs.specs.declared.keys.TheConstants.{POSITIONS}
+use Rattle.stm_logs.proofs.KeyLemmas.{empty_keys}
+use Rattle.stm_logs.proofs.keys.Keys.new.Goals as goal
+
+pub returns : goal.returns
+returns c = empty_keys POSITIONS
