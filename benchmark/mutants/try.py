@@ -157,7 +157,7 @@ def read_arguments():
     parser.add_argument("--patience", type=int, default=PATIENCE, metavar="SECONDS",
                         help=f"how long no call may end before a peer is said to stand still (default: {PATIENCE})")
     parser.add_argument("--page", action="store_true",
-                        help="prints the table of docs/CHECK-STM.md: histories of three loads, the run alone")
+                        help="prints the table of docs/MEASURED.md: histories of three loads, the run alone")
     parser.add_argument("--only", action="append", metavar="NAME", help="one of the edits")
     parser.add_argument("--work", type=read_load, default="", metavar="NAME=N,..",
                         help=f"options of the drawn tasks, in the place of {LOAD}")

@@ -31,7 +31,7 @@ use Rattle.judge_linear.specs.declared.order.SearchedCalls.{SearchedCalls}
 use Rattle.judge_linear.specs.declared.ordering.Outcome.{Outcome}
 use Rattle.judge_linear.specs.declared.ordering.Outcome.TheVariants as outcome
 use Rattle.judge_linear.specs.Found.{FoundOfText, Wrong, Order, NoOrder, IllegalPart, Undecided, IsFound}
-use Rattle.judge_linear.specs.Found.{RunsGiven, RunsBefore, TextRunsWithin}
+use Rattle.judge_linear.specs.Found.{RunsGiven, RunsBefore}
 use Rattle.judge_linear.specs.Judged.{IsJudged, AreRelaxed, IsJudgedAs, HasSearched, IsOrder, HasFoundOrder}
 use Rattle.judge_linear.specs.Judged.{IsJudgedFirst, IsJudgedBelow, IsJudgedAt, IsReadAt}
 use Rattle.judge_linear.specs.Found.{found_text}
@@ -41,7 +41,7 @@ use Rattle.judge_linear.specs.Relaxed.{AreRelaxedCalls}
 use Rattle.judge_linear.proofs.Kept.{kept_lines}
 use Rattle.judge_linear.proofs.Freed.{freed_lines, freed_are, freed_calls, relaxed_texts, relaxed_kept, sorted_kept}
 use Rattle.judge_linear.proofs.Freed.{turn_relaxed, whole_relaxed, pending_last}
-use Rattle.judge_linear.proofs.Founds.{kept_are, kept_same, takes}
+use Rattle.judge_linear.proofs.Founds.{kept_are, kept_same}
 use Rattle.judge_linear.proofs.Written.{strongest, illegal_not, undecided_not}
 
 -- lines as they are given
@@ -77,7 +77,7 @@ module _ (want : Level) (n steps bound : ℕ) (history : History) (held : IsHeld
     (merges : InTurn (calls_of history.lines.items) →
     IsMerge (calls_of history.lines.items) (calls_of calls.lines.items)) (found : Found (Point State))
     (f : IsFoundIn reserving (point_at reserving calls) (empty_state n) (calls_of calls.lines.items) bound found)
-    (small : bound ≤ steps) where
+    (small : bound + bound ≤ steps) where
   abbrev lines : List (Line Task)
   lines = history.lines.items
 
@@ -99,6 +99,9 @@ module _ (want : Level) (n steps bound : ℕ) (history : History) (held : IsHeld
   together : found.steps + (steps - found.steps) ≡ steps
   together = let within = f.within in omega (arith, small)
 
+  half : found.steps + found.steps ≤ steps
+  half = let within = f.within in omega (arith, small)
+
   as_made : IsFoundIn reserving (point_at reserving calls) (empty_state n) (calls_of calls.lines.items) found.steps
       found
   as_made = record { within = omega arith; run = f.run; finds = f.finds; spent = λ u. refl }
@@ -109,6 +112,7 @@ module _ (want : Level) (n steps bound : ℕ) (history : History) (held : IsHeld
     given = found.steps;
     left = steps - found.steps;
     together = together;
+    half = half;
     before = has_searched;
     sorted = freed_lines want calls.lines.items;
     relaxed = relaxed_sort;
@@ -142,6 +146,7 @@ module _ (want : Level) (n steps bound : ℕ) (history : History) (held : IsHeld
       given = found.steps;
       left = steps - found.steps;
       together = together;
+      half = half;
       before = has_searched;
       sorted = freed_lines want calls.lines.items;
       relaxed = relaxed_sort;
@@ -157,9 +162,9 @@ at_below level.Serializable s calls steps searched below h = h
 -- ---- what is found of the text
 
 -- an order that keeps all order is found at each level
-order_below : (want : Level) (n steps given : ℕ) (bytes text : List ℕ) → TextRunsWithin want n bytes steps →
+order_below : (want : Level) (n steps given : ℕ) (bytes text : List ℕ) →
     FindsText level.Linearizable n given bytes outcome.Ordered text → FindsText want n steps bytes outcome.Ordered text
-order_below want n steps given bytes text runs f = go f.found f.is f.answered f.text_is
+order_below want n steps given bytes text f = go f.found f.is f.answered f.text_is
   where
     go : (found : FoundOfText) → IsFound level.Linearizable n given bytes found →
         outcome.Ordered ≡ outcome_of found → text ≡ found_text bytes found →
@@ -172,7 +177,6 @@ order_below want n steps given bytes text runs f = go f.found f.is f.answered f.
         keeps = ap (λ shown. keeps_all_of shown want) (strongest is.shown is.keeps);
         ordered = is.ordered;
       };
-      takes = runs;
       answered = refl;
       text_is = t;
     }
@@ -185,7 +189,7 @@ module _ (n steps : ℕ) (history : History) (held : IsHeld history) (few : n �
     (right : first_wrong bytes ≡ None) (searched : SearchedCalls) (result : Outcome) (text : List ℕ)
     (prints : (kept : Level) (lines : List (Line Task)) (n given left : ℕ) (bytes : List ℕ) → n ≤ MOST_BLOCKS →
     AreKeptLines lines searched.calls.lines.items → IsJudged (empty_state n) searched.calls left searched.judged →
-    (read : IsReadAt kept bytes lines) → RunsBefore kept n bytes read.calls given →
+    (read : IsReadAt kept bytes lines) → RunsBefore kept n bytes read.calls given → given ≤ left →
     FindsText kept n (given + left) bytes result text)
     (order : HasFoundOrder searched.judged → result ≡ outcome.Ordered) where
   abbrev all : List (Line Task)
@@ -206,7 +210,7 @@ module _ (n steps : ℕ) (history : History) (held : IsHeld history) (few : n �
   told_given left h =
       subst (λ m. FindsText level.Linearizable n m bytes result text) (omega arith)
       (prints level.Linearizable h.relaxed.relaxed n 0 left bytes few h.relaxed.are_kept h.judged
-      (read_at level.Linearizable searched.calls.lines.items h.relaxed) refl)
+      (read_at level.Linearizable searched.calls.lines.items h.relaxed) refl (omega arith))
 
   runs_given : (given : ℕ) → HasSearched (empty_state n) all given → RunsGiven n bytes (calls_of all) given
   unfolding as_given read_at
@@ -224,22 +228,19 @@ module _ (n steps : ℕ) (history : History) (held : IsHeld history) (few : n �
   unfolding read_at
   told_below want h before = go h.judged
     where
-      runs : TextRunsWithin want n bytes steps
-      runs =
-          takes want h.relaxed.relaxed h.sorted h.relaxed.are_kept bytes (read_at want h.sorted h.relaxed) n h.given
-          h.left steps (let own = h.together in omega arith) before
-          (record { made = 0; within = omega arith; run = tt })
+      less : h.given ≤ h.left
+      less = let own = h.together in let half = h.half in omega arith
 
       go : IsJudgedFirst want (empty_state n) all h.given h.left searched → FindsText want n steps bytes result text
       go (inl found) =
           let ordered_is = order found.1 in
           subst (λ o. FindsText want n steps bytes o text) (sym ordered_is)
-          (order_below want n steps h.given bytes text runs
+          (order_below want n steps h.given bytes text
           (subst (λ o. FindsText level.Linearizable n h.given bytes o text) ordered_is (told_given h.given found.0)))
       go (inr j) =
           subst (λ m. FindsText want n m bytes result text) h.together
           (prints want j.relaxed.relaxed n h.given h.left bytes few j.relaxed.are_kept j.judged
-          (read_at want searched.calls.lines.items j.relaxed) before)
+          (read_at want searched.calls.lines.items j.relaxed) before less)
 
   pub told_at : (want : Level) → IsJudgedAt want (empty_state n) all steps searched →
       FindsText want n steps bytes result text

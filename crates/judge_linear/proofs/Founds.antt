@@ -39,7 +39,7 @@ use Rattle.judge_reservations.specs.Lines.{has_part}
 use Rattle.judge_object.specs.Orders.{IsLinearizable}
 use Rattle.vac_model.specs.declared.limits.TheConstants.{MOST_BLOCKS}
 use Rattle.std.specs.List.{list_all}
-use Rattle.judge_linear.specs.Found.{AreKeptInOrder, ArePartsAt, ArePartsThen, RunsBefore, RunsWithin, TextRunsWithin}
+use Rattle.judge_linear.specs.Found.{AreKeptInOrder, ArePartsAt, ArePartsThen, RunsBefore}
 use Rattle.judge_linear.specs.Judged.{IsReadAt}
 use Rattle.judge_object.specs.declared.level.Level.{Level}
 use Rattle.judge_object.specs.declared.level.Level.TheVariants as level
@@ -238,7 +238,7 @@ length_alone : {O : Type 0} (n : ℕ) (cs : List (object.Call O)) → length (al
 length_alone n [] = refl
 length_alone n (c ∷ cs) = ap suc (length_alone (n + 1) cs)
 
-length_relaxed : {O : Type 0} (want : Level) (cs : List (object.Call O)) → length (relax want cs) ≡ length cs
+pub length_relaxed : {O : Type 0} (want : Level) (cs : List (object.Call O)) → length (relax want cs) ≡ length cs
 length_relaxed level.Linearizable cs = refl
 length_relaxed level.Sequential cs = length-map cs untimed
 length_relaxed level.Serializable cs = length_alone 1 cs
@@ -274,25 +274,11 @@ module _ (want : Level) (lines kept : List (Line Task)) (k : AreKeptLines lines 
     merges = subst (IsMerge (relax want read.calls)) kept_same kept_merges;
   }
 
-  pub takes : (n given left steps : ℕ) → given + left ≤ steps → RunsBefore want n bytes read.calls given →
-      RunsWithin (empty_state n) (calls_of kept) left → TextRunsWithin want n bytes steps
-  takes n given left steps l before r = record {
-    calls = read.calls;
-    numbers = numbers_of kept;
-    are_kept = kept_are;
-    given = given;
-    left = left;
-    together = l;
-    before = before;
-    runs = subst (λ cs. RunsWithin (empty_state n) cs left) kept_same r;
-  }
-
-  pub finds_order : (n given left : ℕ) (places : List ℕ) (text : List ℕ) → RunsBefore want n bytes read.calls given →
-      RunsWithin (empty_state n) (calls_of kept) left →
+  pub finds_order : (n steps : ℕ) (places : List ℕ) (text : List ℕ) →
       IsLinearizedBy reserving (empty_state n) (calls_of kept) places →
       text ≡ placed_text (texts_of kept) places
-      → FindsText want n (given + left) bytes outcome.Ordered text
-  finds_order n given left places text before r h e =
+      → FindsText want n steps bytes outcome.Ordered text
+  finds_order n steps places text h e =
       let within : All (λ p. p < length kept) places = subst (λ m. All (λ p. p < m) places)
       (length-map kept call_of) h.within in
       let numbers = numbers_at (numbers_of kept) places in
@@ -319,19 +305,17 @@ module _ (want : Level) (lines kept : List (Line Task)) (k : AreKeptLines lines 
             linearization = subst (IsLinearization n) calls h.linearization;
           };
         };
-        takes = takes n given left (given + left) (omega arith) before r;
         answered = refl;
         text_is = e ∙ order_lines lines kept k.each bytes places read.texts within;
       }
 
-  pub finds_none : (n given left most : ℕ) (made : ℕ → Bool) (s : State) (found : List (Stuck Reply)) (text : List ℕ)
-      → RunsBefore want n bytes read.calls given → RunsWithin (empty_state n) (calls_of kept) left →
+  pub finds_none : (n steps most : ℕ) (made : ℕ → Bool) (s : State) (found : List (Stuck Reply)) (text : List ℕ) →
       HasNoOrder reserving (empty_state n) (calls_of kept) most
       (record { rest = rest_of made 0 (calls_of kept); state = s }) →
       AreStuck reserving s made (calls_of kept) found
       → text ≡ none_text most (told_by (numbers_of kept) found) →
-      FindsText want n (given + left) bytes outcome.Illegal text
-  finds_none n given left most made s found text before r h a e =
+      FindsText want n steps bytes outcome.Illegal text
+  finds_none n steps most made s found text h a e =
       let same = kept_same in
       record {
         found = NoOrder most (told_by (numbers_of kept) found);
@@ -351,17 +335,16 @@ module _ (want : Level) (lines kept : List (Line Task)) (k : AreKeptLines lines 
           are = subst (λ cs. AreStuck reserving s made cs found) same a;
           told = refl;
         };
-        takes = takes n given left (given + left) (omega arith) before r;
         answered = refl;
         text_is = e;
       }
 
-  pub finds_part : (n given left : ℕ) (part : declared.IllegalPart) (text : List ℕ) → n ≤ MOST_BLOCKS →
-      RunsBefore want n bytes read.calls given → HasNoOrderOf kept part →
+  pub finds_part : (n steps : ℕ) (part : declared.IllegalPart) (text : List ℕ) → n ≤ MOST_BLOCKS →
+      HasNoOrderOf kept part →
       text ≡ part_text part.wrong.line part.scope.customers.items part.scope.items.items
       (told_by (numbers_of part.wrong.part.calls.lines.items) part.wrong.part.stuck.items) part.wrong.states →
-      FindsText want n (given + left) bytes outcome.Illegal text
-  finds_part n given left part text few before h e =
+      FindsText want n steps bytes outcome.Illegal text
+  finds_part n steps part text few h e =
       let same = kept_same in
       let scope = part.scope in
       let sorted = part.calls.lines.items in
@@ -414,17 +397,15 @@ module _ (want : Level) (lines kept : List (Line Task)) (k : AreKeptLines lines 
           };
           states_before = h.wrong.states_before;
         };
-        takes = takes n given left (given + left) (omega arith) before
-            (record { made = 0; within = omega arith; run = tt });
         answered = refl;
         text_is = e;
       }
 
   pub finds_nothing : (n given left most : ℕ) (text : List ℕ) → RunsBefore want n bytes read.calls given →
-      RunsWithin (empty_state n) (calls_of kept) left →
+      given ≤ left →
       IsUndecided reserving (start (empty_state n) (calls_of kept)) left most →
       text ≡ open_text most → FindsText want n (given + left) bytes outcome.Undecided text
-  finds_nothing n given left most text before r h e = record {
+  finds_nothing n given left most text before less h e = record {
     found = Undecided most;
     is = record {
       calls = read.calls;
@@ -433,10 +414,10 @@ module _ (want : Level) (lines kept : List (Line Task)) (k : AreKeptLines lines 
       given = given;
       left = left;
       together = refl;
+      half = omega (arith, less);
       before = before;
       undecided = subst (λ cs. IsUndecided reserving (start (empty_state n) cs) left most) kept_same h;
     };
-    takes = takes n given left (given + left) (omega arith) before r;
     answered = refl;
     text_is = e;
   }
@@ -460,7 +441,7 @@ text_whole want n steps unread left history result text r f =
 wrong_text : (want : Level) (n steps : ℕ) (bytes : List ℕ) (verdict : Verdict) (text : List ℕ) →
     text ≡ verdict_text verdict → first_wrong bytes ≡ Some verdict → FindsText want n steps bytes outcome.Illegal text
 wrong_text want n steps bytes verdict text e h =
-    record { found = Wrong verdict; is = h; takes = tt; answered = refl; text_is = e }
+    record { found = Wrong verdict; is = h; answered = refl; text_is = e }
 
 of_whole : (want : Level) (n steps : ℕ) (unread left : Option (List ℕ)) (bytes : List ℕ) (result : Outcome)
     (text : List ℕ) → Consumes unread left bytes

@@ -215,8 +215,9 @@ RunsBefore level.Linearizable n bytes calls steps = steps ≡ 0
 RunsBefore kept n bytes calls steps = RunsGiven n bytes calls steps
 
 -- after `steps` steps, of a search of the history as it is given and of a search at the level,
--- neither an order is found nor the absence of one is shown. In the orders that were tried at the
--- level, at most `most` completed calls were placed
+-- neither an order is found nor the absence of one is shown. The search at the level made at least
+-- half of them. In the orders that were tried at the level, at most `most` completed calls were
+-- placed
 pub record IsLeftOpen (kept : Level) (n : ℕ) (bytes : List ℕ) (steps most : ℕ) : Type 0 where
   pub calls : List Call
   pub numbers : List ℕ
@@ -224,36 +225,10 @@ pub record IsLeftOpen (kept : Level) (n : ℕ) (bytes : List ℕ) (steps most : 
   pub given : ℕ
   pub left : ℕ
   pub together : given + left ≡ steps
+  pub half : given + given ≤ steps
   pub before : RunsBefore kept n bytes calls given
   pub undecided : IsUndecided reserving
       (start (empty_state n) (relaxed_numbered kept calls numbers)) left most
-
--- an exact search of the calls from a state on can make a number of steps, at most `steps`
--- Not said: that the search whose result is given made this number. A search can always make no
--- step, so nothing is said of the time that the search took, nor of the search by heuristics, nor
--- of the count of states, which has a bound of its own.
-pub record RunsWithin (s : State) (calls : List Call) (steps : ℕ) : Type 0 where
-  pub made : ℕ
-  pub within : made ≤ steps
-  pub run : HasRun reserving made (start s calls)
-
--- an exact search of the calls of a text as they are given, and an exact search of the calls
--- without the order that the level does not keep, can make a number of steps, together at most
--- `steps`
-pub record TextRunsWithin (kept : Level) (n : ℕ) (bytes : List ℕ) (steps : ℕ) : Type 0 where
-  pub calls : List Call
-  pub numbers : List ℕ
-  pub are_kept : AreKeptInOrder kept bytes calls numbers
-  pub given : ℕ
-  pub left : ℕ
-  pub together : given + left ≤ steps
-  pub before : RunsBefore kept n bytes calls given
-  pub runs : RunsWithin (empty_state n) (relaxed_numbered kept calls numbers) left
-
--- for a result of a search there is such a number; a wrong line is found without a search
-abbrev pub TakesWithin : Level → ℕ → List ℕ → ℕ → FoundOfText → Type 0
-TakesWithin kept n bytes steps (Wrong verdict) = ⊤
-TakesWithin kept n bytes steps found = TextRunsWithin kept n bytes steps
 
 -- the value is a result for the text at the level, for a system of n blocks, of searches that may
 -- make this many steps

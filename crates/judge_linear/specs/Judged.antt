@@ -1,5 +1,5 @@
 -- Findings of the searches on the calls of a history, in the order in which the calls are kept.
-use Rattle.std.specs.Prelude.{◌≡◌, ◌⊎◌, ◌+◌, ⊤, ℕ, true, None, List, map}
+use Rattle.std.specs.Prelude.{◌≡◌, ◌⊎◌, ◌+◌, ◌≤◌, ⊤, ℕ, true, None, List, map}
 use Rattle.std.specs.List.{list_all, filter_map}
 use Rattle.vac_model.specs.declared.limits.TheConstants.{MOST_BLOCKS}
 use Rattle.vac_model.specs.declared.tasks.Task.{Task}
@@ -88,12 +88,13 @@ IsJudgedFirst kept s lines given left searched =
     ⊎ IsJudgedAs kept s lines left searched
 
 -- what the searches find at a level below linearizability: after a search of the lines as they are
--- given, the search at the level has the steps that are left
+-- given, in at most half of the steps, the search at the level has the steps that are left
 pub record IsJudgedBelow (kept : Level) (s : State) (lines : List (Line Task)) (steps : ℕ)
     (searched : SearchedCalls) : Type 0 where
   pub given : ℕ
   pub left : ℕ
   pub together : given + left ≡ steps
+  pub half : given + given ≤ steps
   pub before : HasSearched s lines given
   pub sorted : List (Line Task)
   pub relaxed : AreRelaxed kept lines sorted

@@ -1,7 +1,7 @@
 -- The result is correct: the history is at the level, or it is not. The text that is written for a
 -- linearization (Herlihy and Wing, TOPLAS 1990) is legal for a judge that trusts the order of the
 -- lines.
-use Rattle.std.specs.Prelude.{◌≡◌, ◌<◌, ◌⊎◌, ⊤, ℕ, true, Option, Some, IfSome, List, reverse}
+use Rattle.std.specs.Prelude.{◌≡◌, ◌<◌, ◌*◌, ◌⊎◌, ℕ, true, Option, Some, IfSome, List, length, reverse}
 use Rattle.std.specs.Io.KnownBytes.{Appends}
 use Rattle.vac_model.specs.declared.limits.TheConstants.{MOST_BLOCKS}
 use Rattle.vac_model.specs.State.{Place, empty_state}
@@ -20,6 +20,7 @@ use Rattle.judge_object.specs.Levels.{IsAt}
 use Rattle.judge_object.specs.Cut.{cut}
 use Rattle.judge_object.specs.Orders.{IsOrderOf, IsLinearizable}
 use Rattle.judge_reservations.specs.Reserving.{reserving}
+use Rattle.judge_search.specs.Deciding.{most_steps}
 use Rattle.judge_linear.specs.Found.{Order, NoOrder, IllegalPart, IsFound, HasIllegalPart}
 use Rattle.judge_linear.specs.Ordering.{FindsText, HasOrdered}
 use Rattle.judge_linear.specs.Wrongs.{IsFirstWrongLine}
@@ -53,20 +54,22 @@ StatesShowFirstEnd = (kept : Level) (n : ℕ) (bytes : List ℕ) (line : ℕ) (c
     earlier < found.moment →
     IsLinearizable reserving (empty_state MOST_BLOCKS) (cut earlier found.parts)
 
--- the history of these calls, with this text, is as an outcome says of a level: at the level; or
--- not at the level, unless a line is wrong
-abbrev pub IsDecided : Level → ℕ → List ℕ → List Call → Outcome → Type 0
-IsDecided kept n bytes calls outcome.Ordered = IsAt reserving kept (empty_state n) calls
-IsDecided kept n bytes calls outcome.Illegal =
+-- the history of these calls, with this text, is as an outcome of searches that may make `steps`
+-- steps says of a level: at the level; or not at the level, unless a line is wrong. If the outcome
+-- says neither, the steps are less than twice those of a search that tries each order of the calls
+abbrev pub IsDecided : Level → ℕ → ℕ → List ℕ → List Call → Outcome → Type 0
+IsDecided kept n steps bytes calls outcome.Ordered = IsAt reserving kept (empty_state n) calls
+IsDecided kept n steps bytes calls outcome.Illegal =
     (IsAt reserving kept (empty_state n) calls → ⊥)
     ⊎ ((verdict : Verdict) × IsFirstWrongLine bytes verdict)
-IsDecided kept n bytes calls outcome.Undecided = ⊤
+IsDecided kept n steps bytes calls outcome.Undecided = steps < 2 * most_steps (length calls)
 
--- the outcome of a search at a level says whether the history is at the level
+-- the outcome of a search at a level says whether the history is at the level, if the search may
+-- make enough steps
 abbrev pub OutcomeDecides : Type 0
 OutcomeDecides = (kept : Level) (n steps : ℕ) (bytes : List ℕ) (result : Outcome) (text : List ℕ) →
     FindsText kept n steps bytes result text →
-    (calls : List Call) → Lists bytes calls → IsDecided kept n bytes calls result
+    (calls : List Call) → Lists bytes calls → IsDecided kept n steps bytes calls result
 
 -- a text is a history of these calls, and their order is a linearization, for a system of n
 -- blocks. The verdict on the text is legal, with the number of calls and clients and the report of

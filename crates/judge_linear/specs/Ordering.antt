@@ -8,7 +8,7 @@ use Rattle.judge_object.specs.declared.level.Level.{Level}
 use Rattle.judge_linear.specs.declared.ordering.Outcome.{Outcome}
 use Rattle.judge_linear.specs.declared.ordering.Outcome.TheVariants as outcome
 use Rattle.judge_linear.specs.Found.{FoundOfText, Wrong, Order, NoOrder, IllegalPart, Undecided, IsFound}
-use Rattle.judge_linear.specs.Found.{TakesWithin, found_text}
+use Rattle.judge_linear.specs.Found.{found_text}
 
 -- the outcome that is returned for a result
 abbrev pub outcome_of : FoundOfText → Outcome
@@ -24,7 +24,6 @@ pub record FindsText (kept : Level) (n steps : ℕ) (bytes : List ℕ) (result :
     (text : List ℕ) : Type 0 where
   pub found : FoundOfText
   pub is : IsFound kept n steps bytes found
-  pub takes : TakesWithin kept n bytes steps found
   pub answered : result ≡ outcome_of found
   pub text_is : text ≡ found_text bytes found
 

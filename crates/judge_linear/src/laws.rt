@@ -43,7 +43,8 @@ pub fn an_illegal_part_with_states_has_no_earlier_end()
 
 /// States that the outcome of a search at a level says whether the history is at the level: it is
 /// if an order is found, and it is not if the outcome is that the history is illegal, unless a line
-/// is wrong.
+/// is wrong. The outcome says neither only if the search may make fewer steps than twice those of a
+/// search that tries each order of the calls.
 pub fn an_outcome_decides_the_level()
     ensures { OutcomeDecides }
 {

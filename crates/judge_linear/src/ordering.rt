@@ -56,7 +56,7 @@ fn print_whole(
         IsFoundIn reserving (point_at reserving calls.now) (empty_state n)
         (calls_of calls.now.lines.items) left found.now →
         (read : IsReadAt kept bytes lines) → RunsBefore kept n bytes read.calls given →
-        text.old.items ≡ [] → FindsText kept n (given + left) bytes outcome text.new.items) }
+        given ≤ left → text.old.items ≡ [] → FindsText kept n (given + left) bytes outcome text.new.items) }
 {
     let lines = calls.as_slice();
     match &found.finding {
@@ -93,7 +93,7 @@ fn print_finding(
         AreKeptLines lines searched.now.calls.lines.items →
         IsJudged (empty_state n) searched.now.calls left searched.now.judged →
         (read : IsReadAt kept bytes lines) → RunsBefore kept n bytes read.calls given →
-        text.old.items ≡ [] → FindsText kept n (given + left) bytes outcome text.new.items) }
+        given ≤ left → text.old.items ≡ [] → FindsText kept n (given + left) bytes outcome text.new.items) }
 {
     match &searched.judged {
         SearchResult::AllCalls(found) => print_whole(alloc, &searched.calls, found, text),
