@@ -30,6 +30,8 @@ MOST_WORDS = {"README.md": 1200, "THEOREM.md": 2200, "PROMISES.md": 2600, "GLOSS
               "CONTRIBUTING.md": 1300, "GATE.md": 900, "ARCHITECTURE.md": 950, "DECISIONS.md": 2700,
               "CHECK-STM.md": 1700, "CHECK-DATA.md": 2000, "EXPLAIN.md": 700, "LOGS.md": 2600}
 LONG_STILL = set()
+# The labels of limits of a promise, which docs/PROMISES.md explains. `Held` .. are the conflicts of promise 15.
+LIMITS = ("Not proved", "Not claimed", "Tested", "Read in the code", "Limit", "Held", "Newer")
 faults = []
 
 
@@ -116,6 +118,24 @@ def holds_plants():
     if told.returncode != 0:
         for line in told.stdout.splitlines() or ["it did not come to its end"]:
             fault(script, line)
+
+
+def holds_promises():
+    """Each promise has a contract and a definition, its limits have the labels that the page explains, and each
+    definition that it names stands in some specs/."""
+    page = ROOT / "docs" / "PROMISES.md"
+    named = r"(?m)^ *(?:abbrev|pub record|pub data)(?: pub)? (\w+)"
+    there = {name for file in CRATES.glob("*/specs/*.antt") for name in re.findall(named, file.read_text())}
+    for section in re.split(r"(?m)^(?=## \d+\. )", page.read_text())[1:]:
+        number, limits = re.match(r"## (\d+)", section).group(1), section.split("\n## ")[0]
+        labels = re.findall(r"(?m)^- ([A-Z][a-z ]+): ", limits)
+        for label in {"Contract", "Definition"} - set(labels):
+            fault(page, f"promise {number} has no line {label}")
+        for label in set(labels) - {"Contract", "Definition", *LIMITS}:
+            fault(page, f"promise {number}: the page does not explain the label {label}")
+        for line in re.findall(r"(?m)^- Definition: (.*)$", limits):
+            for name in set(re.findall(r"`(\w+)`", line)) - there:
+                fault(page, f"promise {number}: no definition {name}")
 
 
 def words(text):
@@ -267,6 +287,7 @@ def main():
         holds_pieces(page)
         holds_links(page)
     holds_clauses()
+    holds_promises()
     holds_lines_of_libraries()
     holds_plants()
     holds_sentences()
