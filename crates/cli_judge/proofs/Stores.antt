@@ -31,6 +31,7 @@ use Rattle.cli_judge.specs.Keys.{JudgesUnstarted, JudgesKeysOf, JudgesKeysUnless
 use Rattle.cli_judge.specs.Keys.{lacks_whole}
 use Rattle.cli_judge.specs.Objects.{JudgesQueue, settings_of}
 use Rattle.cli_judge.specs.Reporting.{ReportsBeside, ReportsKeysUnless}
+use Rattle.cli_judge.proofs.Judgement.{work_in}
 
 -- functions that give the same at each place are the same
 same_at_each : {A B : Type 0} (f g : A → B) → ((x : A) → f x ≡ g x) → f ≡ g
@@ -139,10 +140,6 @@ names_line status held holds number fault text is h = inl (subst (λ t. EndsWith
 
 -- ---- with and without a start file
 
--- the file that a command line names, if it names one
-abbrev file_in : (List ℕ → Option (List ℕ)) → Option (Bor (List ℕ)) → Option (Option (List ℕ))
-file_in files name = option_map (λ n. files n.now) name
-
 none_some : {A : Type 0} (a : A) → None ≡ Some a → ⊥
 none_some a e = cc
 
@@ -151,13 +148,13 @@ some_same a b e = cc
 
 module _ (files : List ℕ → Option (List ℕ)) (is_whole : Bool) (how : Settings) (status : ℕ)
     (unread left held middle holds : Option (List ℕ)) where
-  no_file : (name : Option (Bor (List ℕ))) → None ≡ file_in files name → middle ≡ held →
+  no_file : (name : Option (Bor (List ℕ))) → None ≡ work_in files name → middle ≡ held →
       JudgesUnstarted is_whole how status unread left middle holds →
       JudgesKeysOf files name is_whole how status unread left held holds
   no_file None is same h = subst (λ m. JudgesUnstarted is_whole how status unread left m holds) same h
   no_file (Some name) is same h = absurd (none_some (files name.now) is)
 
-  one_file : (name : Option (Bor (List ℕ))) (file : Option (List ℕ)) → Some file ≡ file_in files name →
+  one_file : (name : Option (Bor (List ℕ))) (file : Option (List ℕ)) → Some file ≡ work_in files name →
       middle ≡ held → ReadsStart is_whole how status file unread left middle holds →
       JudgesKeysOf files name is_whole how status unread left held holds
   one_file None file is same h = absurd (none_some file (sym is))
@@ -167,21 +164,24 @@ module _ (files : List ℕ → Option (List ℕ)) (is_whole : Bool) (how : Setti
 
   -- no file was named, or the one that was named was opened; `of` is what a file has
   pub of_no_file : {X : Type 0} {of : X → Option (List ℕ)} (file : Option X) (name : Option (Bor (List ℕ))) →
-      file ≡ None → option_map of file ≡ file_in files name → middle ≡ held →
+      file ≡ None → option_map of file ≡ work_in files name → middle ≡ held →
       JudgesUnstarted is_whole how status unread left middle holds →
       JudgesKeysOf files name is_whole how status unread left held holds
   of_no_file {X} {of} file name none is same h = no_file name (sym (ap (option_map of) none) ∙ is) same h
 
   pub of_file : {X : Type 0} {of : X → Option (List ℕ)} (file : Option X) (x : X) (name : Option (Bor (List ℕ))) →
-      file ≡ Some x → option_map of file ≡ file_in files name → middle ≡ held →
+      file ≡ Some x → option_map of file ≡ work_in files name → middle ≡ held →
       ReadsStart is_whole how status (of x) unread left middle holds →
       JudgesKeysOf files name is_whole how status unread left held holds
   of_file {X} {of} file x name some is same h = one_file name (of x) (sym (ap (option_map of) some) ∙ is) same h
 
-  pub of_unopened : (name : Option (Bor (List ℕ))) → IsSome name → NotOpened status held holds →
-      JudgesKeysOf files name is_whole how status unread unread held holds
-  of_unopened None some not = absurd (let k : false ≡ true = some in cc)
-  of_unopened (Some name) some not = inr (refl, not)
+-- the file that was named was not opened
+pub of_unopened : (files : List ℕ → Option (List ℕ)) (is_whole : Bool) (how : Settings) (status : ℕ)
+    (unread held holds : Option (List ℕ)) (name : Option (Bor (List ℕ))) → IsSome name → NotOpened status held holds →
+    JudgesKeysOf files name is_whole how status unread unread held holds
+of_unopened files is_whole how status unread held holds None some not =
+    absurd (let k : false ≡ true = some in cc)
+of_unopened files is_whole how status unread held holds (Some name) some not = inr (refl, not)
 
 -- ---- a command line that is refused, or is not
 
