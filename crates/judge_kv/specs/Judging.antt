@@ -17,9 +17,9 @@ use Rattle.judge_kv.specs.StoreRules.{whole}
 use Rattle.judge_kv.specs.StoreWords.{whole_language}
 use Rattle.judge_kv.specs.Classes.{name_of, AreStoreObjects}
 
--- each line of a text is a call, each client's calls are in turn, and the calls are at the level for
--- the whole store, which begins with these keys and values: they have a linearization, or an order
--- of a weaker level
+-- each line of a text is a call, each client's calls are in turn, and the calls are at the level
+-- for the whole store, which begins with these keys and values: they have a linearization, or an
+-- order of a weaker level
 pub record IsLegalStore (kept : Level) (pairs : Pairs) (text : List ℕ) : Type 0 where
   pub calls : List (Call Requested)
   pub are : text_calls whole whole_language text ≡ Ok calls

@@ -194,7 +194,8 @@ fn queue_command<'a>(alloc: Global) -> Made<'a>
 {
     let command = Command::new(alloc, "queue")
         .about(
-            "Judges whether the history of a queue of four numbers on standard input has a linearization",
+            "Judges whether the history of a queue of four numbers on standard input has a \
+             linearization",
         )
         .after_help("Example:\n  echo '1 0 5 enqueue 3 -> true' | judge queue");
     add_searching_options(alloc, Ok(command), ALL_SEARCHES)

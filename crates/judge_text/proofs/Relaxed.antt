@@ -75,11 +75,13 @@ module _ {O : Type 0} where
 
   -- ---- their counts
 
-  ops_untimed : (calls : List (Call O)) → map (λ (call : Call O). call.op) (map untimed calls) ≡ map (λ call. call.op) calls
+  ops_untimed : (calls : List (Call O)) → map (λ (call : Call O). call.op) (map untimed calls) ≡ map
+      (λ call. call.op) calls
   ops_untimed [] = refl
   ops_untimed (c ∷ cs) = ap (λ ops. c.op ∷ ops) (ops_untimed cs)
 
-  ops_alone : (n : ℕ) (calls : List (Call O)) → map (λ (call : Call O). call.op) (alone n calls) ≡ map (λ call. call.op) calls
+  ops_alone : (n : ℕ) (calls : List (Call O)) → map (λ (call : Call O). call.op) (alone n calls) ≡ map
+      (λ call. call.op) calls
   ops_alone n [] = refl
   ops_alone n (c ∷ cs) = ap (λ ops. c.op ∷ ops) (ops_alone (n + 1) cs)
 

@@ -73,8 +73,8 @@ module _ {S O R : Type 0} (X : Rules S O R) (name : O → List ℕ)
 
 module _ {S O R : Type 0} (X : Rules S O R) (name : O → List ℕ) (L : Language O R) where
   -- each line of a text is a call, each client's calls are in turn, and the calls are at the level:
-  -- they have a linearization, or an order of a weaker level; s has the state in which the object of
-  -- each name begins
+  -- they have a linearization, or an order of a weaker level. The object of each name begins in the
+  -- state that s gives it
   pub record IsLegalText (kept : Level) (s : List ℕ → S) (text : List ℕ) : Type 0 where
     pub calls : List (Call O)
     pub are : text_calls X L text ≡ Ok calls

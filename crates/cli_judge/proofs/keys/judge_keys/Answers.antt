@@ -21,7 +21,8 @@ returns-clause-judged g c =
     (g.R.Read.remaining a) (g.R.Read.remaining b) (g.W.Write.contents c.args.output.now)
     (g.W.Write.contents c.judge_keys_of-status.new.output))
     _ _ _ _ c.watch.ensures.inner c.measure_calls.ensures.inner
-    (keys_asked _ _ _ _ _ _ _ (sym c.lacks_whole.ensures ∙ c.if-lacks_whole.false) c.judge_keys_of-status.ensures.judged)
+    (keys_asked _ _ _ _ _ _ _ (sym c.lacks_whole.ensures ∙ c.if-lacks_whole.false)
+        c.judge_keys_of-status.ensures.judged)
 
 pub returns-clause-reported : goal.returns-clause-reported
 returns-clause-reported g c =

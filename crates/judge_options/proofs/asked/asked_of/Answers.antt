@@ -46,7 +46,11 @@ pub returns-in-Some-named-2 : goal.returns-in-Some-named-2
 returns-in-Some-named-2 c = λ words is. (_, sym is.found ∙ c.in-Some-named-2.ensures.some, c.opacity_of.ensures)
 
 pub returns-in-Some-named-3 : goal.returns-in-Some-named-3
-returns-in-Some-named-3 c = λ words is. (_, sym is.found ∙ c.in-Some-named-3.ensures.some, c.in_ok-part_words_of.ensures)
+returns-in-Some-named-3 c = λ words is. (
+  _,
+  sym is.found ∙ c.in-Some-named-3.ensures.some,
+  c.in_ok-part_words_of.ensures,
+)
 
 pub returns-in-Some-named-4 : goal.returns-in-Some-named-4
 returns-in-Some-named-4 c = λ words is. c.keys_asked.ensures words (sym is.found ∙ c.in-Some-named-4.ensures.some)
