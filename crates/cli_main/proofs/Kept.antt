@@ -40,7 +40,8 @@ module _ {X : Type 0} (notes : X → RecorderContents) where
   -- the traces in such a recorder are those of all attempts
   are_traced : (image : List ℕ) (history : List Record) (attempts : ℕ) (records : List Record) (aborts : List Aborted)
       (before after : X) → IsEmpty (notes before) → HaveRead image history aborts →
-      AreKept attempts records aborts (notes before) (notes after) → HasAllAttempts image history attempts (notes after)
+      AreKept attempts records aborts (notes before) (notes after) →
+      HasAllAttempts image history attempts records aborts (notes after)
   are_traced image history attempts records aborts before after empty read k = λ all is.
       let o = k.between.traced all is in
       let same : all ≡ o.left = o.all_are ∙ ap (λ (l : List Trace). l ++ o.left) (empty.traces o.earlier o.before_is) in
@@ -49,8 +50,6 @@ module _ {X : Type 0} (notes : X → RecorderContents) where
         last = k.last;
         from = (notes before).latest;
         to = (notes after).latest;
-        records = records;
-        aborts = aborts;
         read = read;
         made = o.made;
         number = o.number;
@@ -66,7 +65,7 @@ module _ {X : Type 0} (notes : X → RecorderContents) where
       ((y : Y) → In y ys → HaveRead image history (aborts_of y)) →
       AllKept attempts_of records_of aborts_of ys (map notes befores) (map notes afters) →
       Paired (λ calls y. Paired IsNoted calls (records_of y)) (map (λ x. calls_kept (notes x)) afters) ys
-      × Paired (λ x y. HasAllAttempts image history (attempts_of y) (notes x)) afters ys
+      × Paired (λ x y. HasAllAttempts image history (attempts_of y) (records_of y) (aborts_of y) (notes x)) afters ys
   all_noted image history attempts_of records_of aborts_of [] [] [] empty read k = (none, none)
   all_noted image history attempts_of records_of aborts_of [] [] (a ∷ afters) empty read k = elim k [ ]
   all_noted image history attempts_of records_of aborts_of [] (b ∷ befores) [] empty read k = elim k [ ]
@@ -102,6 +101,7 @@ module _ {X : Type 0} (notes : X → RecorderContents) where
           of_clients = others.0;
         };
         setup_attempts = k.setup_attempts;
+        setup_aborts = k.opening_aborts;
         opening = are_traced image history k.setup_attempts k.loaded.opened k.opening_aborts before.opening
             after.opening
             opening k.opening_read k.opening_kept;

@@ -5,9 +5,8 @@ use Rattle.std.proofs.Common.{if◌then◌else◌}
 use Rattle.std.specs.Prelude.{IsErrOf, IfSome, is_some}
 use Rattle.std.specs.Global.{Box}
 use Rattle.std.specs.FinMap.{get}
-use Rattle.std.specs.List.{All, list_all}
+use Rattle.std.specs.List.{list_all}
 use Rattle.std.proofs.lemmas.List.{length-map}
-use Rattle.std.proofs.lemmas.List.Elements.{All-nil, All-cons, All-head, All-tail}
 use Rattle.std.proofs.lemmas.Bool.Decides.{nat_tests}
 use Rattle.tx_memory.specs.Image.{In, Has, Agrees}
 use Rattle.tx_memory.specs.Paired.{agrees-map_of}
@@ -15,15 +14,15 @@ use Rattle.stm_core.specs.Client.{Record, Aborted}
 use Rattle.stm_core.proofs.Lists.{nothing_in}
 use Rattle.stm_core.proofs.Orders.{in_cons}
 use Rattle.stm_object.specs.declared.place.CommitPosition.{CommitPosition}
-use Rattle.load_run.specs.Load.{is_load, HaveRead}
+use Rattle.load_run.specs.Load.{Share, is_load, HaveRead}
 use Rattle.load_tasks.specs.declared.settings.Settings.{Settings}
 use Rattle.load_tasks.specs.Setting.{is_settings}
 use Rattle.vac_manager.specs.declared.note.CompletedCall.{CompletedCall}
 use Rattle.vac_manager.specs.declared.note.TracedAttempt.{TracedAttempt}
 use Rattle.vac_manager.specs.Tracing.{Trace, trace_of, AreMadeInTurn}
-use Rattle.stm_core.specs.History.{Sub, done, keep, skip, image_upto}
+use Rattle.stm_core.specs.History.{image_upto}
 use Rattle.load_run.specs.Lists.{Paired, none, both}
-use Rattle.load_run.specs.Made.{ReadsOneImageIfAborted, IsTraceOfListed, committed_in, aborted_in, AreAscending}
+use Rattle.load_run.specs.Made.{IsTraceOfListed, committed_in, aborted_in, AreAscending, AreMade}
 use Rattle.load_run.specs.Made.{IsNotedWith}
 use Rattle.load_run.specs.Several.{Interleaved, no_more, of_first, of_second}
 use Rattle.load_run.proofs.Making.{aborted_both, aborted_one}
@@ -44,7 +43,7 @@ use Rattle.load_run.specs.declared.load.LoadFault.{LoadFault}
 use Rattle.cli_main.specs.Ending.{long_attempt_line}
 use Rattle.load_run.specs.declared.summary.LoadSummary.{LoadSummary}
 use Rattle.cli_main.specs.Load.{HasNoted, WroteLoadAttempts, WroteLoadAttemptsInPart, HasLongAttempt}
-use Rattle.cli_main.specs.Load.{AreAllTraces, GivenUpReadOneImage, IsWholePage}
+use Rattle.cli_main.specs.Load.{AreAllTraces, IsWholePage}
 use Rattle.vac_manager.specs.Keeping.{IsNoted}
 use Rattle.cli_main.proofs.LoadEnds.{few_blocks, both_first, both_second}
 use Rattle.cli_main.proofs.Recorded.{made_history}
@@ -70,22 +69,6 @@ whole_trail a b true d h = refl
 whole_trail true true false d h = absurd (let n : false ≡ true = h in cc)
 whole_trail true false false d h = absurd (let n : false ≡ true = h in cc)
 whole_trail false b false d h = absurd (let n : false ≡ true = h in cc)
-
--- a sublist has what all elements have
-all_sub : {A : Type 0} (P : A → Type 0) {xs ys : List A} → Sub xs ys → All P ys → All P xs
-all_sub P (done {ys = ys}) h = All-nil P
-all_sub P (keep x {xs = xs} {ys = ys} p) h = All-cons P x xs (All-head P x ys h) (all_sub P p (All-tail P x ys h))
-all_sub P (skip y {xs = xs} {ys = ys} p) h = all_sub P p (All-tail P y ys h)
-
-all_mapped : (notes : List TracedAttempt) (more : List Trace) →
-    All ReadsOneImageIfAborted (map trace_of notes ++ more) →
-    All (λ a. ReadsOneImageIfAborted (trace_of a)) notes
-all_mapped [] more h = All-nil (λ a. ReadsOneImageIfAborted (trace_of a))
-all_mapped (a ∷ notes) more h =
-    let rest = map trace_of notes ++ more in
-    All-cons (λ a. ReadsOneImageIfAborted (trace_of a)) a notes
-    (All-head ReadsOneImageIfAborted (trace_of a) rest h)
-    (all_mapped notes more (All-tail ReadsOneImageIfAborted (trace_of a) rest h))
 
 not_both : (c rest : Bool) → (not c && rest) ≡ true → c ≡ false
 not_both false rest h = refl
@@ -173,9 +156,10 @@ together (of_second t p) xs (y ∷ ys) e f =
     }
 
 -- a ledger has all attempts of its client, if all are known
-abbrev pub LedgerHasAll : {W : Type 0} → List ℕ → List Record → ℕ → AttemptRecorder W → Type 0
-LedgerHasAll image history attempts ledger = (all : List Trace) → ended_by ledger.trail ≡ Some all →
-    AreAllTraces image history attempts ledger.journal.notes.items all
+abbrev pub LedgerHasAll : {W : Type 0} → List ℕ → List Record → ℕ → List Record → List Aborted → AttemptRecorder W →
+    Type 0
+LedgerHasAll image history attempts records aborts ledger = (all : List Trace) → ended_by ledger.trail ≡ Some all →
+    AreAllTraces image history attempts records aborts ledger.journal.notes.items all
 
 -- the aborted attempts of a list read the images of their read versions
 abbrev AllReadPlaces : List ℕ → List Record → List TracedAttempt → Type 0
@@ -205,18 +189,15 @@ all_read image history (n ∷ notes) (b ∷ aborts) (both h hs) read a i = elim 
 ]
 all_read image history (n ∷ notes) [] h read a i = elim h [ ]
 
-module _ {W : Type 0} (image : List ℕ) (history : List Record) (attempts : ℕ) (ledger : AttemptRecorder W)
-    (whole : is_whole_ledger ledger ≡ true) (has : LedgerHasAll image history attempts ledger) where
+module _ {W : Type 0} (image : List ℕ) (history : List Record) (attempts : ℕ) (records : List Record)
+    (aborts : List Aborted) (ledger : AttemptRecorder W) (whole : is_whole_ledger ledger ≡ true)
+    (has : LedgerHasAll image history attempts records aborts ledger) where
   abbrev traces : List Trace
   traces = map trace_of ledger.trail.given_up.items ++ committed_trace ledger.trail.committed
 
-  known_traces : AreAllTraces image history attempts ledger.journal.notes.items traces
+  known_traces : AreAllTraces image history attempts records aborts ledger.journal.notes.items traces
   known_traces = has traces (ap (λ (b : Bool). known b traces)
       (whole_trail ledger.is_whole ledger.journal.is_whole ledger.trail.is_whole ledger.trail.accesses.is_whole whole))
-
-  page_aborted : GivenUpReadOneImage (page_of ledger)
-  page_aborted = all_mapped ledger.trail.given_up.items (committed_trace ledger.trail.committed)
-      (all_sub ReadsOneImageIfAborted known_traces.are_left.among known_traces.are_made.aborted)
 
   its_aborted : map trace_of ledger.trail.given_up.items ≡ aborted_in known_traces.made
   its_aborted = sym (aborted_there ledger.trail.given_up.items ledger.trail.committed ledger.trail.aborted
@@ -225,10 +206,10 @@ module _ {W : Type 0} (image : List ℕ) (history : List Record) (attempts : ℕ
   page_read : AllReadPlaces image history (page_of ledger).given_up
   page_read =
       let k = known_traces in
-      all_read image history ledger.trail.given_up.items k.aborts
-      (subst (λ (l : List Trace). Paired IsTraceOfListed l k.aborts) (sym its_aborted) k.are_made.listed) k.read
+      all_read image history ledger.trail.given_up.items aborts
+      (subst (λ (l : List Trace). Paired IsTraceOfListed l aborts) (sym its_aborted) k.are_made.listed) k.read
 
-  page_whole : IsWholePage attempts (page_of ledger)
+  page_whole : IsWholePage image history attempts records aborts (page_of ledger)
   page_whole =
       let k = known_traces in
       let given = ledger.trail.given_up.items in
@@ -251,56 +232,59 @@ module _ {W : Type 0} (image : List ℕ) (history : List Record) (attempts : ℕ
           positions = places_of k.first k.last all.all ascending;
         };
         number = sym (length-map all.all trace_of) ∙ (ap (λ (l : List Trace). length l) all.same ∙ k.number);
+        first = k.first;
+        last = k.last;
+        from = k.from;
+        to = k.to;
+        made = subst (λ (l : List Trace). AreMade k.first k.last k.from k.to calls records aborts l) (sym all.same)
+            k.are_made;
+        read = k.read;
       }
 
-module _ {X W : Type 0} (image : List ℕ) (history : List Record) (attempts_of_share : X → ℕ) where
-  pages_aborted : (ledgers : List (AttemptRecorder W)) (xs : List X) → list_all is_whole_ledger ledgers ≡ true →
-      Paired (λ ledger x. LedgerHasAll image history (attempts_of_share x) ledger) ledgers xs →
-      All GivenUpReadOneImage (map page_of ledgers)
-  pages_aborted [] [] whole none = All-nil GivenUpReadOneImage
-  pages_aborted (ledger ∷ ledgers) (x ∷ xs) whole (both h hs) =
-      let rest = list_all is_whole_ledger ledgers in
-      All-cons GivenUpReadOneImage (page_of ledger) (map page_of ledgers)
-      (page_aborted image history (attempts_of_share x) ledger (both_first (is_whole_ledger ledger) rest whole) h)
-      (pages_aborted ledgers xs (both_second (is_whole_ledger ledger) rest whole) hs)
-  pages_aborted [] (x ∷ xs) whole hs = elim hs [ ]
-  pages_aborted (ledger ∷ ledgers) [] whole hs = elim hs [ ]
+module _ {D : Type 0} (image : List ℕ) (history : List Record) where
+  -- each of whole pages was made in turn
+  pages_in_turn : (pages : List Page) (xs : List (Share D)) →
+      Paired (λ page x. IsWholePage image history x.attempts x.records x.aborts page) pages xs →
+      EachMadeInTurn pages
+  pages_in_turn [] [] none page i = absurd (nothing_in page i)
+  pages_in_turn (p ∷ pages) (x ∷ xs) (both h hs) page i = elim (in_cons p page pages i) [
+    | inl e ↦ subst MadeInTurn e h.in_turn
+    | inr j ↦ pages_in_turn pages xs hs page j
+  ]
+  pages_in_turn [] (x ∷ xs) hs page i = elim hs [ ]
+  pages_in_turn (p ∷ pages) [] hs page i = elim hs [ ]
 
-  pages_whole : (ledgers : List (AttemptRecorder W)) (xs : List X) → list_all is_whole_ledger ledgers ≡ true →
-      Paired (λ ledger x. LedgerHasAll image history (attempts_of_share x) ledger) ledgers xs →
-      Paired (λ page x. IsWholePage (attempts_of_share x) page) (map page_of ledgers) xs
+module _ {D W : Type 0} (image : List ℕ) (history : List Record) where
+  -- a ledger has all attempts of a client's share
+  abbrev pub LedgerOfShare : AttemptRecorder W → Share D → Type 0
+  LedgerOfShare ledger x = LedgerHasAll image history x.attempts x.records x.aborts ledger
+
+  pages_whole : (ledgers : List (AttemptRecorder W)) (xs : List (Share D)) →
+      list_all is_whole_ledger ledgers ≡ true → Paired LedgerOfShare ledgers xs →
+      Paired (λ page x. IsWholePage image history x.attempts x.records x.aborts page) (map page_of ledgers) xs
   pages_whole [] [] whole none = none
   pages_whole (ledger ∷ ledgers) (x ∷ xs) whole (both h hs) =
       let rest = list_all is_whole_ledger ledgers in
-      both (page_whole image history (attempts_of_share x) ledger (both_first (is_whole_ledger ledger) rest whole) h)
+      both (page_whole image history x.attempts x.records x.aborts ledger
+      (both_first (is_whole_ledger ledger) rest whole) h)
       (pages_whole ledgers xs (both_second (is_whole_ledger ledger) rest whole) hs)
   pages_whole [] (x ∷ xs) whole hs = elim hs [ ]
   pages_whole (ledger ∷ ledgers) [] whole hs = elim hs [ ]
 
-  pages_read : (ledgers : List (AttemptRecorder W)) (xs : List X) → list_all is_whole_ledger ledgers ≡ true →
-      Paired (λ ledger x. LedgerHasAll image history (attempts_of_share x) ledger) ledgers xs →
+  pages_read : (ledgers : List (AttemptRecorder W)) (xs : List (Share D)) →
+      list_all is_whole_ledger ledgers ≡ true → Paired LedgerOfShare ledgers xs →
       AbortedReadAtTheirPlaces image history (map page_of ledgers)
   pages_read [] [] whole none = λ page i. absurd (nothing_in page i)
   pages_read (ledger ∷ ledgers) (x ∷ xs) whole (both h hs) = λ page i.
       let rest = list_all is_whole_ledger ledgers in
       elim (in_cons (page_of ledger) page (map page_of ledgers) i) [
         | inl e ↦ subst (λ (p : Page). AllReadPlaces image history p.given_up) e
-            (page_read image history (attempts_of_share x) ledger (both_first (is_whole_ledger ledger) rest whole) h)
+            (page_read image history x.attempts x.records x.aborts ledger
+            (both_first (is_whole_ledger ledger) rest whole) h)
         | inr j ↦ pages_read ledgers xs (both_second (is_whole_ledger ledger) rest whole) hs page j
       ]
   pages_read [] (x ∷ xs) whole hs = elim hs [ ]
   pages_read (ledger ∷ ledgers) [] whole hs = elim hs [ ]
-
--- each of whole pages was made in turn
-pages_in_turn : {X : Type 0} (attempts_of_share : X → ℕ) (pages : List Page) (xs : List X) →
-    Paired (λ page x. IsWholePage (attempts_of_share x) page) pages xs → EachMadeInTurn pages
-pages_in_turn attempts_of_share [] [] none page i = absurd (nothing_in page i)
-pages_in_turn attempts_of_share (p ∷ pages) (x ∷ xs) (both h hs) page i = elim (in_cons p page pages i) [
-  | inl e ↦ subst MadeInTurn e h.in_turn
-  | inr j ↦ pages_in_turn attempts_of_share pages xs hs page j
-]
-pages_in_turn attempts_of_share [] (x ∷ xs) hs page i = elim hs [ ]
-pages_in_turn attempts_of_share (p ∷ pages) [] hs page i = elim hs [ ]
 
 -- ---- loads
 
@@ -334,60 +318,57 @@ module _ {W : Type 0} (s : Settings) (n : LoadSummary) (opening : AttemptRecorde
   others_whole : are_whole_ledgers opening clients ≡ true → list_all is_whole_ledger clients ≡ true
   others_whole whole = both_second (is_whole_ledger opening) (list_all is_whole_ledger clients) whole
 
-  abbrev HasAll : ℕ → AttemptRecorder W → Type 0
-  HasAll k ledger = LedgerHasAll has.loaded.image has.loaded.history k ledger
+  abbrev OpeningHasAll : ℕ → List Aborted → Type 0
+  OpeningHasAll k aborts = LedgerHasAll has.loaded.image has.loaded.history k has.loaded.opened aborts opening
 
-  aborted : are_whole_ledgers opening clients ≡ true → (k : ℕ) → HasAll k opening →
-      Paired (λ ledger x. HasAll x.attempts ledger) clients has.loaded.shares →
-      All GivenUpReadOneImage (pages_of opening clients)
-  aborted whole k first others = All-cons GivenUpReadOneImage (page_of opening) (map page_of clients)
-      (page_aborted has.loaded.image has.loaded.history k opening (opening_whole whole) first)
-      (pages_aborted has.loaded.image has.loaded.history (λ x. x.attempts) clients has.loaded.shares
-      (others_whole whole) others)
+  abbrev ClientsHaveAll : Type 0
+  ClientsHaveAll = Paired (LedgerOfShare has.loaded.image has.loaded.history) clients has.loaded.shares
 
-  clients_whole : are_whole_ledgers opening clients ≡ true →
-      Paired (λ ledger x. HasAll x.attempts ledger) clients has.loaded.shares →
-      Paired (λ page x. IsWholePage x.attempts page) (map page_of clients) has_pages.loaded.shares
+  opening_is : are_whole_ledgers opening clients ≡ true → (k : ℕ) (aborts : List Aborted) → OpeningHasAll k aborts →
+      IsWholePage has_pages.loaded.image has_pages.loaded.history k has_pages.loaded.opened aborts (page_of opening)
   unfolding has_pages
-  clients_whole whole others = pages_whole has.loaded.image has.loaded.history
-      (λ x. x.attempts) clients has.loaded.shares (others_whole whole) others
+  opening_is whole k aborts first = page_whole has.loaded.image has.loaded.history k has.loaded.opened aborts opening
+      (opening_whole whole) first
+
+  clients_whole : are_whole_ledgers opening clients ≡ true → ClientsHaveAll →
+      Paired (λ page x. IsWholePage has_pages.loaded.image has_pages.loaded.history x.attempts x.records x.aborts page)
+      (map page_of clients) has_pages.loaded.shares
+  unfolding has_pages
+  clients_whole whole others = pages_whole has.loaded.image has.loaded.history clients has.loaded.shares
+      (others_whole whole) others
 
   -- each client made its attempts in turn
-  each_in_turn : are_whole_ledgers opening clients ≡ true → (k : ℕ) → HasAll k opening →
-      Paired (λ ledger x. HasAll x.attempts ledger) clients has.loaded.shares →
-      EachMadeInTurn (pages_of opening clients)
-  each_in_turn whole k first others page i = elim (in_cons (page_of opening) page (map page_of clients) i) [
-    | inl e ↦ subst MadeInTurn e
-        (page_whole has.loaded.image has.loaded.history k opening (opening_whole whole) first).in_turn
-    | inr j ↦ pages_in_turn (λ x. x.attempts) (map page_of clients) has_pages.loaded.shares
-        (clients_whole whole others) page j
+  each_in_turn : are_whole_ledgers opening clients ≡ true → (k : ℕ) (aborts : List Aborted) →
+      OpeningHasAll k aborts → ClientsHaveAll → EachMadeInTurn (pages_of opening clients)
+  each_in_turn whole k aborts first others page i = elim (in_cons (page_of opening) page (map page_of clients) i) [
+    | inl e ↦ subst MadeInTurn e (opening_is whole k aborts first).in_turn
+    | inr j ↦ pages_in_turn has_pages.loaded.image has_pages.loaded.history (map page_of clients)
+        has_pages.loaded.shares (clients_whole whole others) page j
   ]
 
   -- the aborted attempts read the words of the history
-  read : are_whole_ledgers opening clients ≡ true → (k : ℕ) → HasAll k opening →
-      Paired (λ ledger x. HasAll x.attempts ledger) clients has.loaded.shares →
-      AbortedReadAtTheirPlaces made.image made.history (pages_of opening clients)
+  read : are_whole_ledgers opening clients ≡ true → (k : ℕ) (aborts : List Aborted) → OpeningHasAll k aborts →
+      ClientsHaveAll → AbortedReadAtTheirPlaces made.image made.history (pages_of opening clients)
   unfolding made has_pages made_history
-  read whole k first others = λ page i.
+  read whole k aborts first others = λ page i.
       let image = has.loaded.image in
       let history = has.loaded.history in
       elim (in_cons (page_of opening) page (map page_of clients) i) [
         | inl e ↦ subst (λ (p : Page). AllReadPlaces image history p.given_up) e
-            (page_read image history k opening (opening_whole whole) first)
-        | inr j ↦ pages_read image history (λ x. x.attempts) clients has.loaded.shares
-            (others_whole whole) others page j
+            (page_read image history k has.loaded.opened aborts opening (opening_whole whole) first)
+        | inr j ↦ pages_read image history clients has.loaded.shares (others_whole whole) others page j
       ]
 
   -- the attempts were written whole
-  pub wrote_tried : (held holds : Option (List ℕ)) → are_whole_ledgers opening clients ≡ true → (k : ℕ) →
-      HasAll k opening → Paired (λ ledger x. HasAll x.attempts ledger) clients has.loaded.shares →
+  pub wrote_tried : (held holds : Option (List ℕ)) → are_whole_ledgers opening clients ≡ true → (k : ℕ)
+      (aborts : List Aborted) → OpeningHasAll k aborts → ClientsHaveAll →
       WroteAttempts s.blocks (pages_of opening clients) held holds →
       WroteLoadAttempts s n held holds
-  wrote_tried held holds whole k first others wrote =
+  wrote_tried held holds whole k aborts first others wrote =
       let few = few_blocks s fits in
       let pages = pages_of opening clients in
       let judged = judged_by_times s.blocks pages wrote.all few wrote.attempts wrote.fits made
-      (read whole k first others) in
+      (read whole k aborts first others) in
       record {
         opening = page_of opening;
         clients = map page_of clients;
@@ -397,30 +378,30 @@ module _ {W : Type 0} (s : Settings) (n : LoadSummary) (opening : AttemptRecorde
         same_image = same_image;
         same_history = same_history;
         history = made_their_history s.blocks pages wrote.all few wrote.attempts made;
-        read = read whole k first others;
+        read = read whole k aborts first others;
         legal = judged.0;
         judged = judged_by_precedence s.blocks pages wrote.all few wrote.attempts wrote.fits made
-            (read whole k first others) (each_in_turn whole k first others);
-        aborted = aborted whole k first others;
+            (read whole k aborts first others) (each_in_turn whole k aborts first others);
         setup_attempts = k;
-        of_opening = page_whole has.loaded.image has.loaded.history k opening (opening_whole whole) first;
+        setup_aborts = aborts;
+        of_opening = opening_is whole k aborts first;
         of_clients = clients_whole whole others;
       }
 
   -- a prefix of them was written
-  pub wrote_tried_in_part : (held holds : Option (List ℕ)) → are_whole_ledgers opening clients ≡ true → (k : ℕ) →
-      HasAll k opening → Paired (λ ledger x. HasAll x.attempts ledger) clients has.loaded.shares →
+  pub wrote_tried_in_part : (held holds : Option (List ℕ)) → are_whole_ledgers opening clients ≡ true → (k : ℕ)
+      (aborts : List Aborted) → OpeningHasAll k aborts → ClientsHaveAll →
       WroteAttemptsPrefix s.blocks (pages_of opening clients) held holds → WroteLoadAttemptsInPart s n held holds
-  wrote_tried_in_part held holds whole k first others wrote = record {
+  wrote_tried_in_part held holds whole k aborts first others wrote = record {
     opening = page_of opening;
     clients = map page_of clients;
     noted = has_pages;
     written = wrote;
     made = made;
-    read = read whole k first others;
-    aborted = aborted whole k first others;
+    read = read whole k aborts first others;
     setup_attempts = k;
-    of_opening = page_whole has.loaded.image has.loaded.history k opening (opening_whole whole) first;
+    setup_aborts = aborts;
+    of_opening = opening_is whole k aborts first;
     of_clients = clients_whole whole others;
   }
 

@@ -17,7 +17,6 @@ use Rattle.judge_calls.specs.CallText.{IsTheirHistory}
 use Rattle.load_run.specs.declared.load.LoadFault.{LoadFault}
 use Rattle.load_run.specs.declared.load.LoadFault.TheVariants as load
 use Rattle.load_run.specs.Attempted.{AreStatistics}
-use Rattle.load_run.specs.Several.{sum_of}
 use Rattle.load_run.specs.Streams.{LoadedBySeed}
 use Rattle.vac_lines.specs.declared.stream_fault.StreamFault.{StreamFault}
 use Rattle.vac_lines.specs.declared.stream_fault.StreamFault.TheVariants as stream
@@ -114,16 +113,15 @@ ended_writing wrote in_part s n (Err fault) status held middle holds ok err can 
 
 -- the load was run to its end, and its two lines were written, in whole or in part, or memory was refused for them
 pub written_lines : (s : Settings) (n : LoadSummary) (status : ℕ) (held holds : Option (List ℕ)) →
-    (loaded : LoadedBySeed s n.report.outcomes n.report.report) →
-    n.statistics.attempts ≡ sum_of (λ x. x.attempts) loaded.shares → status ≤ 1 →
+    LoadedBySeed s n.report.outcomes n.report.report → status ≤ 1 →
     (status ≡ 0 → Appends held holds (load_text n.report))
     → (status ≡ 1 → AppendsPrefix held holds (fault_line stream.Memory) ⊎ AppendsPrefix held holds (load_text n.report))
     → EndsWithStatus status (WroteLoad s n held holds) (WroteLoadInPart s n held holds)
-written_lines s n zero held holds loaded made low done stopped =
-    inl (refl, record { loaded = loaded; attempts_add_up = made; written = done refl })
-written_lines s n (suc zero) held holds loaded made low done stopped =
-    inr (refl, record { loaded = loaded; attempts_add_up = made; written = stopped refl })
-written_lines s n (suc (suc k)) held holds loaded made low done stopped = absurd (omega (arith, low))
+written_lines s n zero held holds loaded low done stopped =
+    inl (refl, record { loaded = loaded; written = done refl })
+written_lines s n (suc zero) held holds loaded low done stopped =
+    inr (refl, record { loaded = loaded; written = stopped refl })
+written_lines s n (suc (suc k)) held holds loaded low done stopped = absurd (omega (arith, low))
 
 -- the calls of journals that were written in one order
 module _ {C : Type 0} (s : Settings) (n : LoadSummary) (opening : CallRecorder C) (clients : List (CallRecorder C))

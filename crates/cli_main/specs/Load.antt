@@ -31,7 +31,7 @@ use Rattle.load_run.specs.Lists.{Paired}
 use Rattle.load_run.specs.declared.statistics.AttemptStatistics.{AttemptStatistics}
 use Rattle.load_run.specs.declared.slots.Recorders.{Recorders}
 use Rattle.load_run.specs.Keeping.{RecorderContents}
-use Rattle.load_run.specs.Made.{ReadsOneImageIfAborted, AreMade, AreLeft}
+use Rattle.load_run.specs.Made.{AreMade, AreLeft}
 use Rattle.load_run.specs.Several.{sum_of}
 use Rattle.load_run.specs.Attempted.{AreStatistics}
 use Rattle.load_run.specs.declared.load.Load.{Load}
@@ -52,7 +52,6 @@ use Rattle.cli_main.specs.Ending.{long_attempt_line}
 -- written
 pub record WroteLoad (s : Settings) (n : LoadSummary) (held holds : Option (List ℕ)) : Type 0 where
   pub loaded : LoadedBySeed s n.report.outcomes n.report.report
-  pub attempts_add_up : n.statistics.attempts ≡ sum_of (λ x. x.attempts) loaded.shares
   pub written : Appends held holds (load_text n.report)
 
 -- the load ran to its end, and a prefix of its two lines was written, or of the line that names
@@ -60,7 +59,6 @@ pub record WroteLoad (s : Settings) (n : LoadSummary) (held holds : Option (List
 pub record WroteLoadInPart (s : Settings) (n : LoadSummary) (held holds : Option (List ℕ))
     : Type 0 where
   pub loaded : LoadedBySeed s n.report.outcomes n.report.report
-  pub attempts_add_up : n.statistics.attempts ≡ sum_of (λ x. x.attempts) loaded.shares
   pub written : AppendsPrefix held holds (fault_line Memory)
       ⊎ AppendsPrefix held holds (load_text n.report)
 
@@ -179,19 +177,18 @@ pub record IsEmpty (kept : RecorderContents) : Type 0 where
   pub calls : kept.calls ≡ Some []
   pub traces : (all : List Trace) → kept.traces ≡ Some all → all ≡ []
 
--- a client made this number of attempts, in turn by their positions and by their times, and these
--- are the traces of them that stayed in its recorder: the aborted ones, each once, and some of the
--- committed ones. All words that an aborted attempt has read are in the image of its read version
--- in this history, applied to this image
+-- a client made this number of attempts, in turn by their positions and by their times: those of
+-- these records and calls, and these aborted ones. These are the traces of them that stayed in its
+-- recorder: the aborted ones, each once, and some of the committed ones. All words that an aborted
+-- attempt has read are in the image of its read version in this history, applied to this image
 pub record AreAllTraces (image : List ℕ) (history : List Record) (attempts : ℕ)
-    (calls : List CompletedCall) (all : List Trace) : Type 0
+    (records : List Record) (aborts : List Aborted) (calls : List CompletedCall) (all : List Trace)
+    : Type 0
   where
     pub first : CommitPosition
     pub last : CommitPosition
     pub from : ℕ
     pub to : ℕ
-    pub records : List Record
-    pub aborts : List Aborted
     pub made : List Trace
     pub number : length made ≡ attempts
     pub are_made : AreMade first last from to calls records aborts made
@@ -199,9 +196,11 @@ pub record AreAllTraces (image : List ℕ) (history : List Record) (attempts : �
     pub read : HaveRead image history aborts
 
 -- a recorder, if its traces are known, has all of this number of attempts of its client
-abbrev pub HasAllAttempts : List ℕ → List Record → ℕ → RecorderContents → Type 0
-HasAllAttempts image history attempts kept = (all : List Trace) → kept.traces ≡ Some all →
-    AreAllTraces image history attempts (calls_kept kept) all
+abbrev pub HasAllAttempts : List ℕ → List Record → ℕ → List Record → List Aborted
+    → RecorderContents → Type 0
+HasAllAttempts image history attempts records aborts kept = (all : List Trace) →
+    kept.traces ≡ Some all →
+    AreAllTraces image history attempts records aborts (calls_kept kept) all
 
 -- the load ran to its end with this summary, and the recorders have its completed calls, and all
 -- attempts of the setup phase and of each client
@@ -211,23 +210,29 @@ pub record AreNoted {K : Type 0} (notes : K → RecorderContents) (s : Settings)
     pub calls : HasNoted s n (calls_kept (notes k.opening))
         (map (λ x. calls_kept (notes x)) k.clients.items)
     pub setup_attempts : ℕ
+    pub setup_aborts : List Aborted
     pub opening : HasAllAttempts calls.loaded.image calls.loaded.history setup_attempts
-        (notes k.opening)
+        calls.loaded.opened setup_aborts (notes k.opening)
     pub clients : Paired (λ x share. HasAllAttempts calls.loaded.image calls.loaded.history
-        share.attempts (notes x)) k.clients.items calls.loaded.shares
+        share.attempts share.records share.aborts (notes x)) k.clients.items calls.loaded.shares
 
--- the attempts on the page are this many, and they have an order in which those of the completed
--- calls are in the order of the calls, and the aborted ones in the order in which the page lists
--- them. By their stamps none begins before an earlier one ended, and by their commit positions none
--- is before an earlier one
--- Not said: that the client made its attempts in this order.
-pub record IsWholePage (attempts : ℕ) (page : Page) : Type 0 where
+-- a client made this many attempts, those of these records and these aborted ones, and the page
+-- lists them: it has each of them once, and no other. In the order in which the client made them
+-- none begins before an earlier one ended, by their stamps, and none is before an earlier one, by
+-- their commit positions. All words that an aborted attempt has read are in the image of its read
+-- version in this history, applied to this image
+-- Not said: anything of the writes of an aborted attempt.
+pub record IsWholePage (image : List ℕ) (history : List Record) (attempts : ℕ)
+    (records : List Record) (aborts : List Aborted) (page : Page) : Type 0 where
   pub in_turn : MadeInTurn page
   pub number : length in_turn.attempts ≡ attempts
-
--- each attempt listed as aborted on the page read one image
-abbrev pub GivenUpReadOneImage : Page → Type 0
-GivenUpReadOneImage page = All (λ a. ReadsOneImageIfAborted (trace_of a)) page.given_up
+  pub first : CommitPosition
+  pub last : CommitPosition
+  pub from : ℕ
+  pub to : ℕ
+  pub made : AreMade first last from to page.calls records aborts
+      (map trace_of in_turn.attempts)
+  pub read : HaveRead image history aborts
 
 -- the load ran to its end, and exactly the history of its completed calls was written: all calls
 -- in the order of their records, and the readers of one version in the order of their begins. In
@@ -270,16 +275,16 @@ pub record WroteCallsInPart (s : Settings) (n : LoadSummary) (held holds : Optio
 -- sorted by commit position. The committed attempts made the history that the calls made, which is
 -- serial from the initial words, and the lines are read as these attempts. Each attempt listed as
 -- aborted reads the words of that history at the version at which it is listed, and every listed
--- attempt is legal. The listed attempts of each client have an order that is in turn. So the judge
--- calls the text opaque if and only if each attempt that had ended before another began comes
--- before that other attempt.
--- Some balanced heap agrees with all reads of each attempt listed as aborted. The listed attempts
--- of all clients together are as many as the load's statistics count, the setup phase left out
--- Not said: that a client made its attempts in this order.
--- Not said: that an attempt listed as aborted was made, at that version and with no other reads;
--- its client, and its writes.
--- Not said: that each aborted attempt of the load is listed. A text and statistics that both leave
--- out some would meet this, as long as the statistics fit the counts of the tasks.
+-- attempt is legal. So the judge calls the text opaque if and only if each attempt that had ended
+-- before another began comes before that other attempt.
+-- Each client made the attempts that are listed of it, in turn and with these reads, and no other:
+-- those of the calls of its share of the load, and the aborted ones of its share. The words that an
+-- aborted one read are those of a balanced heap of the system's blocks. All clients together made
+-- as many attempts as the load's statistics count, the setup phase left out
+-- Not said: anything of the writes of an attempt listed as aborted.
+-- Not said: that the aborted attempts of a share are those that a client of this load's manager
+-- lists; `count_loop` says it of its client. A text and statistics that both leave out the same
+-- attempts would meet this, as long as the statistics fit the counts of the tasks.
 -- Not said: how many attempts the setup phase makes.
 -- Not said: that a stamp is a reading of the clock, and that the stamps of different clients keep
 -- the order. If all stamps are 0, nothing is said about time.
@@ -297,14 +302,17 @@ pub record WroteLoadAttempts (s : Settings) (n : LoadSummary) (held holds : Opti
   pub read : AbortedReadAtTheirPlaces made.image made.history (opening ∷ clients)
   pub legal : EachIsLegal (map attempt_of written.all)
   pub judged : LoadJudgedByPrecedence s.blocks written.all
-  pub aborted : All GivenUpReadOneImage (opening ∷ clients)
   pub setup_attempts : ℕ
-  pub of_opening : IsWholePage setup_attempts opening
-  pub of_clients : Paired (λ page x. IsWholePage x.attempts page) clients noted.loaded.shares
+  pub setup_aborts : List Aborted
+  pub of_opening : IsWholePage noted.loaded.image noted.loaded.history setup_attempts
+      noted.loaded.opened setup_aborts opening
+  pub of_clients : Paired (λ page x. IsWholePage noted.loaded.image noted.loaded.history x.attempts
+      x.records x.aborts page) clients noted.loaded.shares
 
 -- the load ran to its end, and nothing or a prefix of a text of its attempts was written. Each
--- attempt listed as aborted reads the words of a history that the calls made
--- Not said: that this history is that of `noted`; that the lines are legal.
+-- attempt listed as aborted reads the words of a history that the calls made, and each client made
+-- the attempts of its page, and no other
+-- Not said: that the history of `made` is that of `noted`; that the lines are legal.
 pub record WroteLoadAttemptsInPart (s : Settings) (n : LoadSummary) (held holds : Option (List ℕ))
     : Type 0 where
   pub opening : Page
@@ -313,10 +321,12 @@ pub record WroteLoadAttemptsInPart (s : Settings) (n : LoadSummary) (held holds 
   pub written : WroteAttemptsPrefix s.blocks (opening ∷ clients) held holds
   pub made : MadeHistory s.blocks (calls_on (opening ∷ clients))
   pub read : AbortedReadAtTheirPlaces made.image made.history (opening ∷ clients)
-  pub aborted : All GivenUpReadOneImage (opening ∷ clients)
   pub setup_attempts : ℕ
-  pub of_opening : IsWholePage setup_attempts opening
-  pub of_clients : Paired (λ page x. IsWholePage x.attempts page) clients noted.loaded.shares
+  pub setup_aborts : List Aborted
+  pub of_opening : IsWholePage noted.loaded.image noted.loaded.history setup_attempts
+      noted.loaded.opened setup_aborts opening
+  pub of_clients : Paired (λ page x. IsWholePage noted.loaded.image noted.loaded.history x.attempts
+      x.records x.aborts page) clients noted.loaded.shares
 
 -- the load ran to its end, and no attempt was written, because one has more than 2,164,800 reads
 -- and writes, or one that is at no word of the heap; a prefix of the line of this fault was written

@@ -14,5 +14,6 @@ mod Gatherings
 pub mod Merging
 mod Shares
 mod Joining
+mod Images
 pub mod Loads
 mod Eras

@@ -39,6 +39,7 @@ use Rattle.load_run.specs.Slots.{SlotShown, shown, kept_at}
 use Rattle.load_run.specs.Load.{InterleavedAll, Share, drawn_share, HasShare, HasKeptShare, HasOpened, RoundHasRun}
 use Rattle.load_run.specs.Load.{is_load, HaveRead, LoadedKept, WasOpened, WasStopped, IsTooShort, IsStopOfLoad}
 use Rattle.load_run.specs.Load.{StopsLoad}
+use Rattle.load_run.proofs.Images.{heap_upto}
 use Rattle.load_run.proofs.Order.{added_known}
 use Rattle.load_run.proofs.Joining.{ran_total}
 use Rattle.load_run.proofs.Beginning.{long_opening}
@@ -151,6 +152,8 @@ loaded_kept leads notes s state last slots y end before kept words r n opened ke
     let capacity : capacity_of end.manager ≡ s.blocks = ap (λ (k : ℕ). (k - 16) / 8) size ∙
     opened.opens.capacity in
     let start : end.manager.first ≡ y.shared.opening = first ∙ opened.opens.first in
+    let serial : Serial y.shared.opening after.records =
+    subst (λ (i : List ℕ). Serial i after.records) start closes.ends.serial in
     let old = all_aborted y.user.value in
     let new = all_aborted after in
     let read : HaveRead y.shared.opening after.records new =
@@ -168,7 +171,10 @@ loaded_kept leads notes s state last slots y end before kept words r n opened ke
         opening_first = all.behind ∙ ap (λ (l : List Record). l ++ all.rest) records;
         image = y.shared.opening;
         heap = opened.opens.heap;
-        serial = subst (λ (i : List ℕ). Serial i after.records) (first ∙ opened.opens.first) closes.ends.serial;
+        serial = serial;
+        balanced = λ renewal version. heap_upto renewal version s.blocks y.shared.opening after.records
+            (record { state = empty_state s.blocks; shown = opened.opens.shown; capacity = refl }) serial
+            closes.ends.sorted closes.ends.abides;
         in_order = closes.ends.sorted;
         versioned = versioned;
         commands = ran.commands;
@@ -227,6 +233,7 @@ kept_on leads s draws_of drawing state ps qs t r n before after befores afters e
     image = h.loaded.image;
     heap = h.loaded.heap;
     serial = h.loaded.serial;
+    balanced = h.loaded.balanced;
     in_order = h.loaded.in_order;
     versioned = h.loaded.versioned;
     commands = h.loaded.commands;

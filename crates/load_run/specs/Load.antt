@@ -36,6 +36,7 @@ use Rattle.load_run.specs.declared.load.LoadFault.TheVariants as load
 use Rattle.vac_model.specs.declared.commands.Command.{Command}
 use Rattle.vac_model.specs.declared.replies.Report.{Report}
 use Rattle.vac_model.specs.State.{State, empty_state, report}
+use Rattle.vac_manager.specs.Law.{Shows}
 use Rattle.vac_manager.specs.Legal.{IsLegal, AreVersioned}
 use Rattle.load_tasks.specs.Draws.{Drawn, times_over}
 use Rattle.load_tasks.specs.Tasks.{task_of, opening}
@@ -302,10 +303,17 @@ StopsLoad {D} leads s state e = (left : D) × IsStopOfLoad leads s state left e
 abbrev pub IsLoadFault : {D : Type 0} → (D → ℕ → D → Type 0) → Settings → D → LoadFault → Type 0
 IsLoadFault leads s state e = (e ≡ load.Arguments) ⊎ StopsLoad leads s state e
 
+-- the image represents a balanced state of a system of this many blocks
+pub record IsBalancedHeap (blocks : ℕ) (image : List ℕ) : Type 0 where
+  pub state : State
+  pub shown : Shows image state
+  pub capacity : state.capacity ≡ blocks
+
 -- the result of a load: there is a history, legal from the empty state, whose final state has the
 -- report. The history is also serial over words: it begins with the words of a partitioned heap,
--- and each record reads what the records before it leave. The commands of the setup phase come
--- first, followed by exactly the completed tasks, in the order of renewals and versions. The tasks
+-- and each record reads what the records before it leave. The image of each version represents a
+-- balanced state, of a system of the settings' blocks. The commands of the setup phase come first,
+-- followed by exactly the completed tasks, in the order of renewals and versions. The tasks
 -- of a client are drawn in turn over all rounds, and the completed ones are in the history in their
 -- order. Each version has at most one writer, and a reader wrote nothing. The counts cover all
 -- tasks of all clients in all rounds; with a single client no task is busy, and if the clock has
@@ -329,6 +337,8 @@ pub record HasLoaded {D P : Type 0} (leads : D → ℕ → D → Type 0) (s : Se
   pub image : List ℕ
   pub heap : IsSpreadHeap image s.blocks
   pub serial : Serial image history
+  pub balanced : (renewal version : ℕ) →
+      IsBalancedHeap s.blocks (image_upto image renewal version history)
   pub in_order : Sorted history
   pub versioned : AreVersioned history
   pub commands : List Command
@@ -344,7 +354,8 @@ pub record HasLoaded {D P : Type 0} (leads : D → ℕ → D → Type 0) (s : Se
   pub in_time : s.clients ≡ 1 → HasTime s → t.spent ≡ 0
 
 -- all words that each of these aborted attempts has read are in the image of the attempt's read
--- version in the history
+-- version in the history. In the history of a load this is a balanced heap of the system's blocks
+-- (`HasLoaded`)
 abbrev pub HaveRead : List ℕ → List Record → List Aborted → Type 0
 HaveRead image history aborts = (a : Aborted) → In a aborts →
     Agrees (image_upto image a.renewal a.version history) a.reads

@@ -25,7 +25,8 @@ pub record ReadsOneImage (t : Trace) : Type 0 where
   pub stands : ∥ StandsOn IsFitting size reads ∥₁
 
 -- if the traced attempt aborted, it is traced as a reader, and read one image
--- Not said: anything of its writes; the size of the image, and its place in the history.
+-- Not said: anything of its writes; the size of the image, and its place in the history. Of a load
+-- `LoadedKept` says both: it is the image of the attempt's version, a heap of the system's blocks.
 abbrev pub ReadsOneImageIfAborted : Trace → Type 0
 ReadsOneImageIfAborted t = t.commits ≡ false → (t.place.wrote ≡ false) × ReadsOneImage t
 

@@ -13,8 +13,8 @@ returns-in-Ok-true g c =
     inl (
       refl,
       wrote_tried l.settings.now l.summary l.recorders.opening l.recorders.clients.items c.requires.fits
-          c.requires.noted.calls _ _ c.requires.whole c.requires.noted.setup_attempts c.requires.noted.opening
-          c.requires.noted.clients
+          c.requires.noted.calls _ _ c.requires.whole c.requires.noted.setup_attempts
+          c.requires.noted.setup_aborts c.requires.noted.opening c.requires.noted.clients
           (rw (← c.as_slice-clients.ensures.value) wrote),
     )
 
@@ -35,8 +35,8 @@ returns-in-Err g c =
     let l = c.args.load.now in
     let written = wrote_tried_in_part l.settings.now l.summary l.recorders.opening l.recorders.clients.items
     c.requires.fits
-    c.requires.noted.calls _ _ c.requires.whole c.requires.noted.setup_attempts c.requires.noted.opening
-    c.requires.noted.clients
+    c.requires.noted.calls _ _ c.requires.whole c.requires.noted.setup_attempts
+    c.requires.noted.setup_aborts c.requires.noted.opening c.requires.noted.clients
     (rw (← c.as_slice-clients.ensures.value) c.in-Err.ensures.err) in
     inr (
       c.end_by.ensures.status,

@@ -34,7 +34,7 @@ returns-in-Ok-run_with_progress g c =
       c.in-Ok-run_with_progress.ensures.progress,
       c.tell_summary.ensures,
     )
-    (written_lines s summary c.write_load.result held holds kept.kept.loaded kept.kept.made e.status e.done e.stopped)
+    (written_lines s summary c.write_load.result held holds kept.kept.loaded e.status e.done e.stopped)
 
 pub returns : goal.returns
 returns g c =
