@@ -216,12 +216,14 @@ pub record AreNoted {K : Type 0} (notes : K → RecorderContents) (s : Settings)
     pub clients : Paired (λ x share. HasAllAttempts calls.loaded.image calls.loaded.history
         share.attempts share.records share.aborts (notes x)) k.clients.items calls.loaded.shares
 
--- a client made this many attempts, those of these records and these aborted ones, and the page
--- lists them: it has each of them once, and no other. In the order in which the client made them
--- none begins before an earlier one ended, by their stamps, and none is before an earlier one, by
--- their commit positions. All words that an aborted attempt has read are in the image of its read
--- version in this history, applied to this image
--- Not said: anything of the writes of an aborted attempt.
+-- the page lists this many attempts, those of these records and these aborted ones, each once, and
+-- no other. They have an order in which those of the calls are in the order of the calls, and the
+-- aborted ones in the order in which the page lists them. In it none begins before an earlier one
+-- ended, by their stamps, and none is before an earlier one, by their commit positions. All words
+-- that an aborted attempt has read are in the image of its read version in this history, applied to
+-- this image
+-- Not said: that the client made its attempts in this order; anything of the writes of an aborted
+-- attempt.
 pub record IsWholePage (image : List ℕ) (history : List Record) (attempts : ℕ)
     (records : List Record) (aborts : List Aborted) (page : Page) : Type 0 where
   pub in_turn : MadeInTurn page
@@ -277,14 +279,17 @@ pub record WroteCallsInPart (s : Settings) (n : LoadSummary) (held holds : Optio
 -- aborted reads the words of that history at the version at which it is listed, and every listed
 -- attempt is legal. So the judge calls the text opaque if and only if each attempt that had ended
 -- before another began comes before that other attempt.
--- Each client made the attempts that are listed of it, in turn and with these reads, and no other:
--- those of the calls of its share of the load, and the aborted ones of its share. The words that an
--- aborted one read are those of a balanced heap of the system's blocks. All clients together made
--- as many attempts as the load's statistics count, the setup phase left out
--- Not said: anything of the writes of an attempt listed as aborted.
--- Not said: that the aborted attempts of a share are those that a client of this load's manager
--- lists; `count_loop` says it of its client. A text and statistics that both leave out the same
--- attempts would meet this, as long as the statistics fit the counts of the tasks.
+-- The attempts that are listed of a client are those of the calls of its share of the load, and the
+-- aborted ones of its share; they have an order that is in turn. The words that an aborted one read
+-- are those of a balanced heap of the system's blocks. The listed attempts of all clients together
+-- are as many as the load's statistics count, the setup phase left out
+-- Not said: that a client made its attempts in this order.
+-- Not said: that an attempt listed as aborted was made, at that version and with no other reads, by
+-- that client; its writes. No clause ties the aborted attempts of a share to a client of this
+-- load's manager; `count_loop` says it of its client.
+-- Not said: that each aborted attempt of the load is listed. A text and statistics that leave out,
+-- or make up, the same attempts would meet this, as long as the statistics fit the counts of the
+-- tasks.
 -- Not said: how many attempts the setup phase makes.
 -- Not said: that a stamp is a reading of the clock, and that the stamps of different clients keep
 -- the order. If all stamps are 0, nothing is said about time.
@@ -310,9 +315,10 @@ pub record WroteLoadAttempts (s : Settings) (n : LoadSummary) (held holds : Opti
       x.records x.aborts page) clients noted.loaded.shares
 
 -- the load ran to its end, and nothing or a prefix of a text of its attempts was written. Each
--- attempt listed as aborted reads the words of a history that the calls made, and each client made
--- the attempts of its page, and no other
--- Not said: that the history of `made` is that of `noted`; that the lines are legal.
+-- attempt listed as aborted reads the words of a history that the calls made, and the attempts of a
+-- page are those of the share of its client
+-- Not said: that the history of `made` is that of `noted`; that the lines are legal; what is not
+-- said of `WroteLoadAttempts`.
 pub record WroteLoadAttemptsInPart (s : Settings) (n : LoadSummary) (held holds : Option (List ℕ))
     : Type 0 where
   pub opening : Page
