@@ -1,8 +1,8 @@
 //! Proved judges of logs. `judge history` says whether a history of a reservation system has a
 //! linearization, or an order of a weaker level; `judge order` writes the order; `judge attempts`
 //! says whether the attempts of a transactional memory are opaque; `judge part` writes what a
-//! history says of some customers and items; and `judge keys` and `judge queue` judge histories of a
-//! key-value store and of a queue. Each reads its log from standard input.
+//! history says of some customers and items; and `judge keys` and `judge queue` judge histories of
+//! a key-value store and of a queue. Each reads its log from standard input.
 #![tactic(auto)]
 
 use cli_judge::{Watched, refuse_words, run_words};

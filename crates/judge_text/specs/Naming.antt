@@ -20,8 +20,8 @@ module _ {S O R : Type 0} (X : Rules S O R) (name : O → List ℕ) (L : Languag
   where
     -- the text names an object whose calls in the history have no linearization, without the order
     -- that the level does not keep, and a blocked call: a completed call of this object, by the
-    -- number of its line. The text has this call first among the blocked calls, with the reply that the
-    -- object would give, which is not the one that the history has
+    -- number of its line. The text has this call first among the blocked calls, with the reply that
+    -- the object would give, which is not the one that the history has
     pub record NamesBlocked (s : List ℕ → S) (bytes text : List ℕ) : Type 0 where
       pub calls : List (Call O)
       pub are : text_calls X L bytes ≡ Ok calls
