@@ -164,17 +164,17 @@ module _ (files : List ℕ → Option (List ℕ)) (is_whole : Bool) (how : Setti
       (subst (λ f. ReadsStart is_whole how status f unread left middle holds) (some_same file (files name.now) is) h))
 
   -- no file was named, or the one that was named was opened; `of` is what a file has
-  pub of_no_file : {X : Type 0} {of : X → Option (List ℕ)} (file : Option X) (name : Option (Bor (List ℕ))) →
+  pub of_no_file : {X : Type 0} (of : X → Option (List ℕ)) (file : Option X) (name : Option (Bor (List ℕ))) →
       file ≡ None → option_map of file ≡ work_in files name → middle ≡ held →
       JudgesUnstarted is_whole how status unread left middle holds →
       JudgesKeysOf files name is_whole how status unread left held holds
-  of_no_file {X} {of} file name none is same h = no_file name (sym (ap (option_map of) none) ∙ is) same h
+  of_no_file {X} of file name none is same h = no_file name (sym (ap (option_map of) none) ∙ is) same h
 
-  pub of_file : {X : Type 0} {of : X → Option (List ℕ)} (file : Option X) (x : X) (name : Option (Bor (List ℕ))) →
+  pub of_file : {X : Type 0} (of : X → Option (List ℕ)) (file : Option X) (x : X) (name : Option (Bor (List ℕ))) →
       file ≡ Some x → option_map of file ≡ work_in files name → middle ≡ held →
       ReadsStart is_whole how status (of x) unread left middle holds →
       JudgesKeysOf files name is_whole how status unread left held holds
-  of_file {X} {of} file x name some is same h = one_file name (of x) (sym (ap (option_map of) some) ∙ is) same h
+  of_file {X} of file x name some is same h = one_file name (of x) (sym (ap (option_map of) some) ∙ is) same h
 
 -- the file that was named was not opened
 pub of_unopened : (files : List ℕ → Option (List ℕ)) (is_whole : Bool) (how : Settings) (status : ℕ)
