@@ -21,11 +21,11 @@ from programs import options_of
 
 # The most instructions of a task, by setting.
 MOST = {
-    "large": 7_160,
-    "crowded": 7_930,
-    "defaults": 6_260,
-    "apart": 6_175,
-    "readers": 4_160,
+    "large": 7_040,
+    "crowded": 7_710,
+    "defaults": 6_070,
+    "apart": 6_045,
+    "readers": 4_055,
 }
 TASKS = 2_000
 # Enough for a run under callgrind on a busy machine, in seconds.
