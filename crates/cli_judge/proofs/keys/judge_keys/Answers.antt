@@ -22,7 +22,7 @@ returns-clause-judged g c =
     (g.W.Write.contents c.judge_keys_of-status.new.output))
     _ _ _ _ c.watch.ensures.inner c.measure_calls.ensures.inner
     (keys_asked _ _ _ _ _ _ _ (sym c.lacks_whole.ensures ∙ c.if-lacks_whole.false)
-        c.judge_keys_of-status.ensures.judged)
+    c.judge_keys_of-status.ensures.judged)
 
 pub returns-clause-reported : goal.returns-clause-reported
 returns-clause-reported g c =
