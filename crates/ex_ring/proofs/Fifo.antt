@@ -1,4 +1,5 @@
 -- What comes out of a history is what went in, but for what is still in.
+use Rattle.std.specs.Prelude.{Result, Ok, Err, IfOk}
 use Rattle.std.proofs.Common.{◌≡◌, ◌≢◌, ℕ, zero, suc, ◌+◌, ◌-◌, ◌%◌, ◌<◌, ◌≤◌, true, false, List, [], ◌∷◌, ◌++◌}
 use Rattle.std.proofs.Common.{slice_index, slice_set, replicate, refl, sym, ap, subst, ◌∙◌, append_assoc, arith, rules}
 use Rattle.std.proofs.Common.{get_or-set_same, get_or-set_other}
@@ -105,3 +106,10 @@ in_turn region v words version empty k =
       history = h;
       fifo = fifo v.records l.entries words (subst (λ ys. IsHistory ring ys v.records l.entries words) empty h);
     }
+
+-- the same of a closing that may have failed
+pub closed_in_turn : {A E : Type 0} (items : A → List ℕ) (region : RegionShown) (v : Client) (r : Result (A × ℕ) E) →
+    region.first ≡ replicate WORDS 0 → IfOk r (λ x. Closes ring region v (items x.0) x.1) →
+    IfOk r (λ x. ClosesInOrder region v (items x.0) x.1)
+closed_in_turn items region v (Ok x) empty h = in_turn region v (items x.0) x.1 empty h
+closed_in_turn items region v (Err e) empty h = tt
