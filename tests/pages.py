@@ -15,6 +15,7 @@ sys.path[:0] = [str(ROOT / "tools"), str(ROOT / "benchmark")]
 
 import crate_pages
 import first_page
+import rattle
 import sizes
 
 PAGES = sorted([*ROOT.glob("*.md"), *(ROOT / "docs").glob("*.md"), *(ROOT / "benchmark").glob("**/README.md")])
@@ -37,17 +38,6 @@ faults = []
 
 def fault(page, text):
     faults.append(f"{page.relative_to(ROOT)}: {text}")
-
-
-def listed_crates():
-    """Each crate of crates.txt with the libraries that it stands on, in the order of the file."""
-    crates = {}
-    for line in (ROOT / "crates.txt").read_text().splitlines():
-        line = line.split("#")[0].strip()
-        if line:
-            name, _, below = line.partition(":")
-            crates[name.split()[0]] = below.split()
-    return crates
 
 
 def holds_crates(crates):
@@ -280,7 +270,7 @@ def holds_kit():
 
 
 def main():
-    crates = listed_crates()
+    crates = rattle.listed_crates()
     holds_crates(crates)
     for page in PAGES:
         holds_files(page)

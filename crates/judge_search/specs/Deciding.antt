@@ -1,4 +1,4 @@
--- How many steps decide a search.
+-- Bounds on the number of steps that decide a search.
 use Rattle.std.specs.Prelude.{◌+◌, ◌*◌, ◌≤◌, ℕ, suc, zero, List, length}
 use Rattle.judge_object.specs.Rules.{Rules}
 use Rattle.judge_object.specs.Call.{Call}

@@ -1,4 +1,4 @@
--- What is kept of a version history if versions are forgotten.
+-- Version histories without the versions that no later call can have as its snapshot.
 use Rattle.std.proofs.Common.{◌≡◌, ℕ, ◌<◌, ◌≤◌, suc, zero, Bool, true, false, cond, List, [], ◌∷◌, ◌++◌}
 use Rattle.std.proofs.Common.{length, refl, sym, ap, ◌∙◌, arith, take, drop}
 use Rattle.std.specs.Prelude.{nat_lt, ⊤}

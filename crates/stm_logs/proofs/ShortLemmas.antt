@@ -1,4 +1,4 @@
--- What a short log says, and how it changes.
+-- Lemmas on the contents of a short log and their changes.
 use Rattle.std.proofs.Common.{◌≡◌, ◌≢◌, ◌⊎◌, inl, inr, ℕ, zero, suc, ◌+◌, ◌%◌, ◌<◌, ◌≤◌, ◌↔◌, Some, None}
 use Rattle.std.proofs.Common.{List}
 use Rattle.std.proofs.Common.{length, set, refl, sym, ap, ◌∙◌, arith, subst, add-one, get_or-set_same}
